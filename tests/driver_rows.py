@@ -1,22 +1,23 @@
 """Rows of the drivers, which are played group by group, and each group once more with each of its allocations refused.
 
-A driver is a program that plays calls of the libraries: crates/NAME/stdin has them, a line `> CALL` each, on values that have names,
-and crates/NAME/stdout has each with its answer. Groups stand apart by an empty line; the first one names what all others use. A group
-that is played alone has to answer as it stands in stdout.
+The driver is a program that plays calls of the libraries: crates/rows/stdin has them, a line `> CALL` each, on values that have names,
+and crates/rows/stdout has each with its answer. Groups stand apart by an empty line. One with the call of a theme, and the first, names
+what all groups below it use, up to the next theme. A group that is played alone, behind that one, has to answer as it stands in stdout.
 
 Where an allocation is refused, what is written may differ in one line alone: behind the call that it was refused to stands `(again)`,
 since the driver then plays the call once more, or what of it is left, and the answer is as ever. Where the refused call left something
 behind, `(again)` tells it. Lines `~ ..` below a call say all that it may leave: then it may be nothing else, one of them has to come
 up, and one that begins with `~ once ` just once. Or the program ends with status 1 at a line of its input that wanted memory. Behind a
-line that begins with `# No allocation is refused` groups are played whole alone.
+line that begins with `# No allocation is refused` the groups of the theme are played whole alone.
 """
-import functools
+import threading
 from typing import Optional
 
 from refuse_allocations import Refuser
 
 UNREFUSED = "# No allocation is refused"
 AGAIN, LEFT, ONCE = "(again)", "~ ", "~ once "
+THEMES = ("> sets\n", "> sites\n", "> tables\n")
 
 
 def groups_of(text: str) -> list[str]:
@@ -37,10 +38,10 @@ def name_of(group: str) -> str:
 
 
 class Group:
-    """A group behind the first one, or that one."""
+    """A group, which is played behind that of its theme unless it is that one."""
 
-    def __init__(self, program: str, first: str, own: str, wanted: str, refuser: Refuser) -> None:
-        self.program, self.given, self.wanted, self.refuser = program, first + own, wanted, refuser
+    def __init__(self, program: str, theme: str, own: str, wanted: str, refuser: Refuser) -> None:
+        self.program, self.given, self.wanted, self.refuser = program, theme + own, wanted, refuser
         self.lines, self.again, self.ended = wanted.splitlines(), 0, 0
         self.wrong: list[str] = []
         self.may = self.left_lines()
@@ -125,21 +126,33 @@ def groups_in(folder: str) -> list[tuple[str, str]]:
 
 
 class Driver:
-    """The groups of a driver, of which the first is played before all others."""
+    """The groups of a driver."""
 
     def __init__(self, program: str, folder: str, refuser: Refuser) -> None:
         every = groups_in(folder)
-        (rows, answer), *_ = every
-        self.groups = [Group(program, rows if at else "", own, (answer if at else "") + wanted, refuser) for at, (own, wanted) in enumerate(every)]
-        # From this one on groups are played whole alone.
-        self.whole = next((at for at, (own, _) in enumerate(every) if UNREFUSED in own), len(every))
+        # The place of the theme of each group, and whether its allocations are refused.
+        self.themes: list[int] = []
+        self.are_refused: list[bool] = []
+        self.groups = []
+        for at, (own, wanted) in enumerate(every):
+            is_first = at == 0 or any(it in own for it in THEMES)
+            self.themes.append(at if is_first else self.themes[-1])
+            self.are_refused.append(UNREFUSED not in own and (is_first or self.are_refused[-1]))
+            rows, answer = ("", "") if is_first else every[self.themes[at]]
+            self.groups.append(Group(program, rows, own, answer + wanted, refuser))
+        self.lock = threading.Lock()
+        self.allocations: dict[int, int] = {}
 
-    @functools.cached_property
-    def allocations_of_first(self) -> int:
-        return self.groups[0].play(1)
+    def allocations_of(self, theme: int) -> int:
+        """How many allocations the group that begins a theme makes, each of which is refused once."""
+        with self.lock:
+            if theme not in self.allocations:
+                self.allocations[theme] = self.groups[theme].play(1)
+            return self.allocations[theme]
 
     def play(self, at: int) -> int:
         """Plays a group, and answers how many allocations were refused to it."""
-        if at == 0:
-            return self.allocations_of_first
-        return self.groups[at].play(self.allocations_of_first + 1 if at < self.whole else None)
+        theme = self.themes[at]
+        if at == theme:
+            return self.allocations_of(at)
+        return self.groups[at].play(self.allocations_of(theme) + 1 if self.are_refused[at] else None)

@@ -78,8 +78,8 @@ STATUS = r"const (?!SUMMARY:)([A-Z_]+): u32 = (\d+);"
             3,
             id="the definition of summaries",
         ),
-        pytest.param(["file_reports/specs/Numbers.antt"], definition("fault_number fault"), OF_REPORTS, "", 3, id="the definition of reports"),
-        pytest.param(["file_reports/src/refusal.rt"], r"ReportFault::(\w+).* => (\d),", OF_REPORTS, "", 3, id="the code's reports"),
+        pytest.param(["event_files/specs/Numbers.antt"], definition("fault_number fault"), OF_REPORTS, "", 3, id="the definition of reports"),
+        pytest.param(["event_files/src/refusal.rt"], r"ReportFault::(\w+).* => (\d),", OF_REPORTS, "", 3, id="the code's reports"),
     ],
 )
 def test_statuses_of_what_is_proved(files: list[str], row: str, names: dict[str, str], prefix: str, least: int) -> None:

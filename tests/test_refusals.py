@@ -8,7 +8,7 @@ given once more after each refused run, with memory: it then has to answer as it
 already, and its database to hold what it holds after the run that meets no refusal. So nothing that was refused was half done, and
 nothing that was done is refused for good.
 
-Tests of libraries that hold whichever allocation is refused run so too, where the gate has built them; rows of drivers are played by
+Tests of libraries that hold whichever allocation is refused run so too, where the gate has built them; rows of the driver are played by
 tests/test_rows.py.
 """
 import contextlib
@@ -175,9 +175,9 @@ ROWS_OF_ALL = [
 ]
 
 
-# Tests that have to pass whichever allocation is refused, by their crate. Rows of drivers are tried by tests/test_rows.py.
+# Tests that have to pass whichever allocation is refused, by their crate. Rows of the driver are tried by tests/test_rows.py.
 TESTS = {
-    "site_checks": [
+    "checks": [
         "refused::a_caller_takes_a_batch_or_its_front",
         "refused::a_desk_takes_a_batch_or_its_front",
         "refused::a_refused_call_has_its_turn_and_adds_nothing",

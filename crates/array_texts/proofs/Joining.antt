@@ -10,7 +10,7 @@ use Rattle.json.proofs.Grammar.{value-begin_array}
 use Rattle.serde_json.specs.Data as tree
 use Rattle.serde_json.specs.Data.{Data}
 use Rattle.serde_json.specs.Read.{of_json, of_items, of_members, number_of, read}
-use Rattle.array_texts.specs.Arrays.{append_items, AreSome, JoinTexts}
+use Rattle.array_texts.specs.Arrays.{append_items, HasItems, JoinTexts}
 use Rattle.array_texts.proofs.Words as words
 use Rattle.array_texts.proofs.Lexing.{AllGood, Cut, cut}
 use Rattle.array_texts.proofs.Places.{NoBad, is_end, lasts, value_like, Placed, placed, all_good}
@@ -230,8 +230,8 @@ of_items-append : (js ks : Items) (xs ys : tree.Items) → of_items js ≡ Some 
 of_items-append no_items ks xs ys a b = let none : tree.no_items ≡ xs = cc in b ∙ ap (λ z. Some (append_items z ys)) none
 of_items-append (item j js) ks xs ys a b = data_step ks ys xs js (of_json j) a (λ zs c. of_items-append js ks zs ys c b)
 
-some_items : (js : Items) (xs : tree.Items) → of_items js ≡ Some xs → AreSome xs → js ≢ no_items
-some_items js xs h some e = let none : tree.no_items ≡ xs = (let g = ap of_items (sym e) ∙ h in cc) in subst AreSome (sym none) some
+some_items : (js : Items) (xs : tree.Items) → of_items js ≡ Some xs → HasItems xs → js ≢ no_items
+some_items js xs h some e = let none : tree.no_items ≡ xs = (let g = ap of_items (sym e) ∙ h in cc) in subst HasItems (sym none) some
 
 pub join_texts : JoinTexts
 join_texts f t xs ys a b some_xs some_ys =

@@ -9,13 +9,13 @@ append_items no_items ys = ys
 append_items (item d xs) ys = item d (append_items xs ys)
 
 -- there is one at least
-abbrev pub AreSome : Items → Type 0
-AreSome no_items = ⊥
-AreSome (item d ds) = ⊤
+abbrev pub HasItems : Items → Type 0
+HasItems no_items = ⊥
+HasItems (item d ds) = ⊤
 
 -- a front that reads as an array once it is closed, a comma, and a rest that reads as an array once
 -- it is opened, neither of them empty, read as the array of both
 abbrev pub JoinTexts : Type 0
 JoinTexts = (f t : List ℕ) (xs ys : Items) → read (f ++ 93 ∷ []) ≡ Some (array xs)
-    → read (91 ∷ t) ≡ Some (array ys) → AreSome xs → AreSome ys
+    → read (91 ∷ t) ≡ Some (array ys) → HasItems xs → HasItems ys
     → read (f ++ 44 ∷ t) ≡ Some (array (append_items xs ys))

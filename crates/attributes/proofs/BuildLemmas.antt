@@ -4,7 +4,7 @@ use Rattle.std.specs.List.Sorted.{IsStrictlySortedBy}
 use Rattle.serde_json.specs.Data.{Num, Items, null, boolean, number, string, array, object, Members, no_members}
 use Rattle.serde_json.specs.Written.{compact_text}
 use Rattle.attributes.specs.Bytes.{byte_cmp}
-use Rattle.attributes.specs.Members.{InOrder}
+use Rattle.attributes.specs.Members.{AreNamesInOrder}
 use Rattle.attributes.specs.Event.{OfferValue, content_of, event_of, scalars_of, text, view_of, with_all, with_content}
 use Rattle.attributes.specs.steps.Content.{HoldsExact}
 use Rattle.attributes.specs.Fault.{IsCarried, member_fault, payload_fault, max_text}
@@ -46,10 +46,10 @@ carried (offered.Bytes b) h = h
 carried offered.Both h = tt
 carried offered.Undecodable h = tt
 
-pub ordered_scalars : (ms : List (List ℕ × Given)) → member_fault ms ≡ None → InOrder ms → InOrder (scalars_of ms)
+pub ordered_scalars : (ms : List (List ℕ × Given)) → member_fault ms ≡ None → AreNamesInOrder ms → AreNamesInOrder (scalars_of ms)
 ordered_scalars ms h order = subst InOrderNames (sym (keys_of-scalars_of ms (values_pass ms h))) order
 
-built_of : (p : OfferValue) (kept : List ℕ) → member_fault p.members ≡ None → payload_fault p.offered ≡ None → InOrder p.members → HoldsExact (content_of p.offered) → kept ≡ text (event_of p) → length kept ≤ max_text → IsUtf8 kept → KeepsText (event_of p) kept
+built_of : (p : OfferValue) (kept : List ℕ) → member_fault p.members ≡ None → payload_fault p.offered ≡ None → AreNamesInOrder p.members → HoldsExact (content_of p.offered) → kept ≡ text (event_of p) → length kept ≤ max_text → IsUtf8 kept → KeepsText (event_of p) kept
 built_of p kept members payload order exact is short utf8 =
     let fits : length (text (event_of p)) ≤ max_text = subst (λ t. length t ≤ max_text) is short in
     record {
@@ -62,7 +62,7 @@ built_of p kept members payload order exact is short utf8 =
       is_text = is;
     }
 
-pub built : (p : OfferValue) (attributes : List (List ℕ × Scalar)) (c : Content) (kept : List ℕ) → member_fault p.members ≡ None → payload_fault p.offered ≡ None → attributes ≡ scalars_of p.members → InOrder p.members → c ≡ content_of p.offered → HoldsExact c → kept ≡ compact_text (object (with_content c (with_all no_members attributes))) → length kept ≤ max_text → IsUtf8 kept → KeepsText (view_of attributes c) kept
+pub built : (p : OfferValue) (attributes : List (List ℕ × Scalar)) (c : Content) (kept : List ℕ) → member_fault p.members ≡ None → payload_fault p.offered ≡ None → attributes ≡ scalars_of p.members → AreNamesInOrder p.members → c ≡ content_of p.offered → HoldsExact c → kept ≡ compact_text (object (with_content c (with_all no_members attributes))) → length kept ≤ max_text → IsUtf8 kept → KeepsText (view_of attributes c) kept
 built p attributes c kept members payload given order carries exact is short utf8 =
     let same : view_of attributes c ≡ event_of p = ap₂ (λ a k. record { attributes = a; content = k }) given carries in
     subst (λ e. KeepsText e kept) (sym same) (built_of p kept members payload order (subst HoldsExact carries exact) (is ∙ ap text same) short utf8)

@@ -17,7 +17,7 @@ use Rattle.serde_json.specs.Data.{Num, unsigned, negative, float, Data, null, bo
 use Rattle.serde_json.specs.Read.{is_integer, float_of, number_from, number_of, of_json, of_items, of_members, max_depth, read}
 use Rattle.serde_json.specs.Written.{has_float, items_have_float, members_have_float}
 use Rattle.attributes.specs.Bytes.{byte_cmp}
-use Rattle.attributes.specs.Exact.{IsWhole, member_names, KeysAscend, IsExact, ItemsAreExact, MembersAreExact}
+use Rattle.attributes.specs.Exact.{IsWholeNumber, member_names, KeysAscend, IsExact, ItemsAreExact, MembersAreExact}
 use Rattle.attributes.proofs.OptionLemmas.{same_some}
 use Rattle.attributes.proofs.BoolLemmas.{and_left, and_right, or_left, or_right}
 
@@ -173,7 +173,7 @@ IsTidy-read t d h = let j = then_some of_json (option_and_then (λ (p : json.Jso
 
 -- ---- without a float
 
-whole_in_range : (n : Num) → IsInRange n → has_float (number n) ≡ false → IsWhole n
+whole_in_range : (n : Num) → IsInRange n → has_float (number n) ≡ false → IsWholeNumber n
 whole_in_range (unsigned n) h f = h
 whole_in_range (negative (pos n)) h f = h
 whole_in_range (negative (negsuc n)) h f = h

@@ -10,7 +10,7 @@ use Rattle.json.specs.Print.{escape, escape_byte, escape_letter, quoted}
 use Rattle.serde_json.specs.Data.{Num, unsigned, negative, float, Data, null, boolean, number, string, array, object, Items, no_items, item, Members, no_members, member}
 use Rattle.serde_json.specs.Written.{comma_if, compact_text, items_text, members_text, number_text}
 use Rattle.attributes.specs.Event.{EventValue, members_of, text}
-use Rattle.attributes.specs.Exact.{IsExact, IsWhole, ItemsAreExact, MembersAreExact}
+use Rattle.attributes.specs.Exact.{IsExact, IsWholeNumber, ItemsAreExact, MembersAreExact}
 use Rattle.attributes.specs.Fault.{IsEvent}
 use Rattle.attributes.proofs.SequenceLemmas.{own}
 use Rattle.attributes.proofs.BoolLemmas.{and_parts}
@@ -32,7 +32,7 @@ digits : (ds : List ℕ) → list_all is_ascii_digit ds ≡ true → IsLine ds
 digits [] h = tt
 digits (d ∷ ds) h = let both = and_parts (is_ascii_digit d) (list_all is_ascii_digit ds) h in (digit d both.0, digits ds both.1)
 
-whole : (n : Num) → IsWhole n → IsLine (number_text n)
+whole : (n : Num) → IsWholeNumber n → IsLine (number_text n)
 whole (unsigned n) h = digits (decimal n) (digits_decimal own n h)
 whole (negative (pos n)) h = absurd h
 whole (negative (negsuc n)) h = (omega arith, digits (decimal (suc n)) (digits_decimal own (suc n) (omega (arith, h))))

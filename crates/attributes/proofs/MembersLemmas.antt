@@ -10,7 +10,7 @@ use Rattle.std.specs.declared.cmp.Ordering.{Ordering}
 use Rattle.std.specs.declared.cmp.Ordering.TheVariants.{Less, Equal, Greater}
 use Rattle.std.proofs.lemmas.Map.Text.{is_eq-slice_cmp}
 use Rattle.attributes.specs.Bytes.{byte_cmp}
-use Rattle.attributes.specs.Members.{named, value_at, with_value, InOrder}
+use Rattle.attributes.specs.Members.{named, value_at, with_value, AreNamesInOrder}
 
 pub value_at-named : {X : Type 0} → (name : List ℕ) (es : List (String Global × X)) → lookup (is_at (λ (k : String Global). byte_cmp name (string_bytes k))) es ≡ value_at name (named es)
 value_at-named name [] = refl
@@ -42,7 +42,7 @@ above k [] h = tt
 above k (e ∷ es) h = (h.0, above k es h.1)
 
 -- entries in the order of a map are members in order
-pub InOrder-named : {X : Type 0} → (es : List (String Global × X)) → IsStrictlySortedBy string_cmp (keys_of es) → InOrder (named es)
+pub InOrder-named : {X : Type 0} → (es : List (String Global × X)) → IsStrictlySortedBy string_cmp (keys_of es) → AreNamesInOrder (named es)
 unfolding IsStrictlySortedBy
 InOrder-named [] h = tt
 InOrder-named (e ∷ es) h = (above e.0 es h.0, InOrder-named es h.1)

@@ -16,7 +16,7 @@ use Rattle.serde_json.proofs.Views.{get_member-put, get_member-put_other}
 use Rattle.attributes.specs.Bytes.{byte_cmp}
 use Rattle.attributes.specs.Character.{is_name}
 use Rattle.std.specs.Map.{keys_of}
-use Rattle.attributes.specs.Members.{InOrder}
+use Rattle.attributes.specs.Members.{AreNamesInOrder}
 use Rattle.attributes.specs.Event.{EventValue, json_of, with_all, with_content, members_of, direct}
 use Rattle.attributes.specs.Exact.{member_names}
 use Rattle.attributes.specs.steps.ObjectText.{then_members}
@@ -35,7 +35,7 @@ pub member_names-direct : (attributes : List (List ℕ × Scalar)) → member_na
 member_names-direct [] = refl
 member_names-direct (a ∷ rest) = ap (λ ns. a.0 ∷ ns) (member_names-direct rest)
 
-with_all-then : (attributes : List (List ℕ × Scalar)) (ms : Members) → InOrder attributes → AreBelowAll ms (keys_of attributes) → with_all ms attributes ≡ then_members ms (direct attributes)
+with_all-then : (attributes : List (List ℕ × Scalar)) (ms : Members) → AreNamesInOrder attributes → AreBelowAll ms (keys_of attributes) → with_all ms attributes ≡ then_members ms (direct attributes)
 unfolding IsStrictlySortedBy
 with_all-then [] ms h below = sym (then_members-no_members ms)
 with_all-then (a ∷ rest) ms h below =
@@ -45,7 +45,7 @@ with_all-then (a ∷ rest) ms h below =
     ∙ then_members-assoc ms (member a.0 (json_of a.1) no_members) (direct rest))
 
 -- attributes in order stand in the object as they are
-pub with_all-direct : (attributes : List (List ℕ × Scalar)) → InOrder attributes → with_all no_members attributes ≡ direct attributes
+pub with_all-direct : (attributes : List (List ℕ × Scalar)) → AreNamesInOrder attributes → with_all no_members attributes ≡ direct attributes
 with_all-direct attributes h = with_all-then attributes no_members h (AreBelowAll-no_members (keys_of attributes))
 
 same_json : (s t : Scalar) → json_of s ≡ json_of t → s ≡ t

@@ -15,7 +15,7 @@ use Rattle.serde_json.specs.Written.{comma_if, compact_text, members_text}
 use Rattle.attributes.specs.Bytes.{byte_cmp}
 use Rattle.attributes.specs.Character.{is_name, is_name_byte}
 use Rattle.attributes.specs.Event.{json_of, with_all, with_content, direct}
-use Rattle.attributes.specs.Members.{named, InOrder}
+use Rattle.attributes.specs.Members.{named, AreNamesInOrder}
 use Rattle.attributes.specs.declared.content.Content.{Content}
 use Rattle.attributes.specs.declared.content.Content.TheVariants as content
 use Rattle.attributes.specs.steps.ObjectText.{IsPayload, onto, pending}
@@ -106,7 +106,7 @@ with_payload (content.Bytes b) there name json new old ms is h =
     let d = string (encode_of standard b) in
     h d (λ e. is.2) ∙ ap₂ (λ (w : Bool) (k : List ℕ). onto old (pending w k d ms)) is.0 is.1
 
-pub laid_whole : (out kept : List ℕ) (attributes : List (List ℕ × Scalar)) (c : Content) → InOrder attributes → kept ≡ out ++ 125 ∷ [] → onto out no_members ≡ onto (123 ∷ []) (with_content c (direct attributes)) → kept ≡ compact_text (object (with_content c (with_all no_members attributes)))
+pub laid_whole : (out kept : List ℕ) (attributes : List (List ℕ × Scalar)) (c : Content) → AreNamesInOrder attributes → kept ≡ out ++ 125 ∷ [] → onto out no_members ≡ onto (123 ∷ []) (with_content c (direct attributes)) → kept ≡ compact_text (object (with_content c (with_all no_members attributes)))
 laid_whole out kept attributes c order closed h =
     closed ∙ (h ∙ ap (λ (ms : Members). compact_text (object (with_content c ms))) (sym (with_all-direct attributes order)))
 

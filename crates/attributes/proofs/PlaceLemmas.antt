@@ -5,7 +5,7 @@ use Rattle.std.specs.Str.{IsCharBoundary, IsUtf8}
 use Rattle.std.proofs.lemmas.Str.{IsCharBoundary-after_ascii}
 use Rattle.std.proofs.lemmas.List.{get_or_append_left, take-append-le, drop-append-le}
 use Rattle.std.proofs.Math.Seq.{get_or-append_seam, drop-append-add, take-append_seam, drop-append_seam}
-use Rattle.attributes.specs.steps.Place.{in_span, IsSpan, behind, id_span, name_of, value_of, Stands, place_name, place_value, IsPlace, shown, ArePlaces, EndsAt}
+use Rattle.attributes.specs.steps.Place.{in_span, IsSpan, behind, id_span, name_at_span, value_of, StandsInText, place_name, place_value, IsPlace, shown, ArePlaces, EndsAt}
 use Rattle.attributes.specs.declared.body.Span.{Span}
 use Rattle.attributes.specs.declared.body.Kind.{Kind}
 use Rattle.attributes.specs.declared.body.Kind.TheVariants as kind
@@ -50,19 +50,19 @@ in_span_more t x s h =
     ap (take (s.end - s.start)) (drop_more t x s.start (omega (arith, h.forward, h.within)))
     ∙ take-append-le (s.end - s.start) (drop s.start t) x (omega (arith, h.within, h.forward, length-drop s.start t))
 
-pub stands_more : (t x u y : List ℕ) (n : Span) (k : Kind) → Stands t u n k → Stands (t ++ x) (u ++ y) n k
+pub stands_more : (t x u y : List ℕ) (n : Span) (k : Kind) → StandsInText t u n k → StandsInText (t ++ x) (u ++ y) n k
 stands_more t x u y n (kind.Flag b) h = span_more t x n h
 stands_more t x u y n (kind.Whole z) h = span_more t x n h
 stands_more t x u y n (kind.Words end) h = (span_more t x n h.0, span_more t x (behind n end) h.1)
 stands_more t x u y n (kind.Escaped end) h = (span_more u y n h.0, span_more u y (behind n end) h.1)
 
-name_more : (t x u y : List ℕ) (n : Span) (k : Kind) → Stands t u n k → name_of (t ++ x) (u ++ y) n k ≡ name_of t u n k
+name_more : (t x u y : List ℕ) (n : Span) (k : Kind) → StandsInText t u n k → name_at_span (t ++ x) (u ++ y) n k ≡ name_at_span t u n k
 name_more t x u y n (kind.Flag b) h = in_span_more t x n h
 name_more t x u y n (kind.Whole z) h = in_span_more t x n h
 name_more t x u y n (kind.Words end) h = in_span_more t x n h.0
 name_more t x u y n (kind.Escaped end) h = in_span_more u y n h.0
 
-value_more : (t x u y : List ℕ) (n : Span) (k : Kind) → Stands t u n k → value_of (t ++ x) (u ++ y) n k ≡ value_of t u n k
+value_more : (t x u y : List ℕ) (n : Span) (k : Kind) → StandsInText t u n k → value_of (t ++ x) (u ++ y) n k ≡ value_of t u n k
 value_more t x u y n (kind.Flag b) h = refl
 value_more t x u y n (kind.Whole z) h = refl
 value_more t x u y n (kind.Words end) h = ap scalar.Words (in_span_more t x (behind n end) h.1)

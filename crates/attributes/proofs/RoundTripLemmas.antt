@@ -14,19 +14,19 @@ use Rattle.serde_json.specs.Read.{number_of, of_json, of_items, of_members, max_
 use Rattle.serde_json.specs.Written.{number_text, outline, items_outline, members_outline, compact_text}
 use Rattle.serde_json.proofs.Numbers.{number_of-decimal, number_of-negative}
 use Rattle.serde_json.proofs.Texts.{print-outline}
-use Rattle.attributes.specs.Exact.{IsWhole, member_names, KeysAscend, IsExact, ItemsAreExact, MembersAreExact}
+use Rattle.attributes.specs.Exact.{IsWholeNumber, member_names, KeysAscend, IsExact, ItemsAreExact, MembersAreExact}
 use Rattle.attributes.specs.steps.ObjectText.{then_members}
 use Rattle.attributes.proofs.PutLemmas.{then_members-no_members, then_members-assoc, put-last, AreBelowAll, AreBelowAll-no_members, AreBelowAll-more}
 
 -- ---- numbers
 
-number_of-number_text : (n : Num) → IsWhole n → number_of (number_text n) ≡ Some n
+number_of-number_text : (n : Num) → IsWholeNumber n → number_of (number_text n) ≡ Some n
 number_of-number_text (unsigned n) h = number_of-decimal n h
 number_of-number_text (negative (pos n)) h = absurd h
 number_of-number_text (negative (negsuc n)) h = number_of-negative n h
 number_of-number_text (float x) h = absurd h
 
-IsNumber-number_text : (n : Num) → IsWhole n → IsNumber (number_text n)
+IsNumber-number_text : (n : Num) → IsWholeNumber n → IsNumber (number_text n)
 IsNumber-number_text (unsigned n) h = IsNumber-decimal n h
 IsNumber-number_text (negative (pos n)) h = absurd h
 IsNumber-number_text (negative (negsuc n)) h = IsNumber-signed_decimal (negsuc n) h

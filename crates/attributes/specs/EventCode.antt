@@ -3,7 +3,7 @@
 use Rattle.std.specs.Prelude.{◌≡◌, ℕ, ◌==◌, ℤ, pos, List, [], Bool, false, cond, refl}
 use Rattle.std.specs.Coded.{Coded, code_by, coded×, coded_list, coded_ℕ, coded_ℤ, coded_bool}
 use Rattle.serde_json.specs.Data.{Data, null}
-use Rattle.attributes.specs.TreeCode.{data_code}
+use Rattle.attributes.specs.TreeCode.{tree_code}
 use Rattle.attributes.specs.Event.{EventValue, OfferValue}
 use Rattle.attributes.specs.declared.scalar.Scalar.{Scalar}
 use Rattle.attributes.specs.declared.scalar.Scalar.TheVariants as scalar
@@ -72,7 +72,7 @@ Payload = ℕ × (Data × List ℕ)
 
 -- the code of these
 abbrev payload_code : Coded Payload
-payload_code = coded× coded_ℕ (coded× data_code (coded_list coded_ℕ))
+payload_code = coded× coded_ℕ (coded× tree_code (coded_list coded_ℕ))
 
 -- the kind of a content, and what it holds
 abbrev content_parts : Content → Payload

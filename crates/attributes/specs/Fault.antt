@@ -6,7 +6,7 @@ use Rattle.base64.specs.GeneralPurpose.{IsBytes}
 use Rattle.serde_json.specs.Data.{null, depth}
 use Rattle.serde_json.specs.Written.{has_float}
 use Rattle.attributes.specs.Character.{is_printable, is_filled, is_name}
-use Rattle.attributes.specs.Members.{value_at, InOrder}
+use Rattle.attributes.specs.Members.{value_at, AreNamesInOrder}
 use Rattle.attributes.specs.Time.{time_day}
 use Rattle.attributes.specs.Exact.{IsExact}
 use Rattle.attributes.specs.Event.{EventValue, OfferValue, event_of, text}
@@ -182,6 +182,6 @@ IsCarried (content.Bytes b) = IsBytes b
 -- (RFC 8259, section 8.1)
 pub record IsEvent (e : EventValue) : Type 0 where
   pub faultless : fault (parts_of e) ≡ None
-  pub in_order : InOrder e.attributes
+  pub in_order : AreNamesInOrder e.attributes
   pub carried : IsCarried e.content
   pub utf8 : IsUtf8 (text e)

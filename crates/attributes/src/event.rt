@@ -6,7 +6,7 @@ ghost use Rattle.std.specs.declared.cmp.Ordering.TheVariants.{Equal};
 ghost use Rattle.attributes.specs.Bytes.{byte_cmp};
 ghost use Rattle.attributes.specs.Character.{is_filled};
 ghost use Rattle.std.specs.Str.{IsUtf8};
-ghost use Rattle.attributes.specs.Members.{InOrder, named, value_at};
+ghost use Rattle.attributes.specs.Members.{AreNamesInOrder, named, value_at};
 ghost use Rattle.attributes.specs.steps.Content.{HoldsExact};
 ghost use Rattle.attributes.specs.steps.Kept.{TellsTree};
 ghost use Rattle.attributes.specs.steps.Place.{IsBody, attributes_in, id_in, kind_in, payload_in, source_in, text_of};
@@ -123,7 +123,7 @@ fn body_of(
     ensures short { IfOk result (λ b. length (text_of b) ≤ max_text) }
     ensures utf8 { IfOk result (λ b. IsUtf8 (text_of b)) }
     ensures shows { IfOk result (λ b. attributes_in b ≡ scalars_of (named members.now.entries)) }
-    ensures ordered { IfOk result (λ b. InOrder (named members.now.entries)) }
+    ensures ordered { IfOk result (λ b. AreNamesInOrder (named members.now.entries)) }
     ensures exact { IfOk result (λ b. HoldsExact content.now) }
     ensures tells { IfOk result (λ b. TellsTree (payload_in b) content.now) }
     ensures body { IfOk result (λ b. IsBody b) }

@@ -18,11 +18,11 @@ pub struct Tree {
 impl Model for Tree {
     ghost use Rattle.serde_json.specs.Data.{Data};
     ghost use Rattle.serde_json.specs.View.{view as tree_of};
-    ghost use Rattle.attributes.specs.TreeCode.{data_code};
+    ghost use Rattle.attributes.specs.TreeCode.{tree_code};
 
     ghost Value = { Data };
 
-    ghost coded = { data_code };
+    ghost coded = { tree_code };
 
     ghost view = { λ t. tree_of t.value };
 }

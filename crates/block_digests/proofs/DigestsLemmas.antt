@@ -13,7 +13,7 @@ use Rattle.std.proofs.lemmas.Cmp.{nat_cmp_total, nat_list_cmp_total}
 use Rattle.std.proofs.lemmas.Map.Text.{is_eq-slice_cmp}
 use Rattle.attributes.specs.Bytes.{byte_cmp}
 use Rattle.attributes.specs.Event.{EventValue}
-use Rattle.block_digests.specs.Kept.{AreOfSource, Digests, KeptBlock, digest_mapped}
+use Rattle.block_digests.specs.Kept.{AreOfSource, DigestMap, KeptBlock, digest_mapped}
 use Rattle.block_digests.specs.steps.Index.{Index, index_in, position}
 use Rattle.block_digests.specs.steps.Mended.{digest_among, fresh_digest}
 use Rattle.block_digests.proofs.GatherLemmas.{IsGathered, gather_end, gather_next, gather_skip, gather_start, is_at-flip}
@@ -72,14 +72,14 @@ abbrev pub of_index : List EventValue → List KeptBlock → ℕ → List (ℕ �
 of_index A blocks k ks = digest_among A blocks (lookup (is_at (nat_cmp k)) ks)
 
 module _ {Y Z : Type 0} (A : List EventValue) (blocks : List KeptBlock) where
-  pub start : (index : Index Y) (left : List (String Y × BTreeMap ℕ ℕ)) (digests : Digests Z) → left ≡ index.entries → IsStrictlySortedBy string_cmp (keys_of index.entries) → digests.entries ≡ []
+  pub start : (index : Index Y) (left : List (String Y × BTreeMap ℕ ℕ)) (digests : DigestMap Z) → left ≡ index.entries → IsStrictlySortedBy string_cmp (keys_of index.entries) → digests.entries ≡ []
       → (k : ℕ) → IsGathered byte_cmp (of_index A blocks k) (index_in index.entries) (index_in left) (λ s. digest_mapped digests s k)
   start index left digests is sorted none k =
       subst (λ l. IsGathered byte_cmp (of_index A blocks k) (index_in index.entries) (index_in l) (λ s. digest_mapped digests s k)) (sym is)
       (gather_start nat_list_cmp_total (of_index A blocks k) (index_in index.entries) (λ s. digest_mapped digests s k) (sorted_index index.entries sorted)
       (λ s. ap (λ l. option_and_then (λ m. get nat_cmp m k) (lookup (λ x. is_at (λ y. byte_cmp s (string_bytes y)) x) l)) none))
 
-  pub source_more : (all left : List (String Y × BTreeMap ℕ ℕ)) (source : String Y) (ks : BTreeMap ℕ ℕ) (rest : List (String Y × BTreeMap ℕ ℕ)) (old new : Digests Z) (key : String Z) (own : BTreeMap ℕ (List ℕ))
+  pub source_more : (all left : List (String Y × BTreeMap ℕ ℕ)) (source : String Y) (ks : BTreeMap ℕ ℕ) (rest : List (String Y × BTreeMap ℕ ℕ)) (old new : DigestMap Z) (key : String Z) (own : BTreeMap ℕ (List ℕ))
       → ((k : ℕ) → IsGathered byte_cmp (of_index A blocks k) (index_in all) (index_in left) (λ s. digest_mapped old s k)) → left ≡ (source, ks) ∷ rest
       → string_bytes key ≡ string_bytes source → ((q : ℕ) → get nat_cmp own q ≡ digest_among A blocks (get nat_cmp ks q))
       → ((cs : List ℕ) → get_by_text new cs ≡ update bytes_eq (get_by_text old) (string_bytes key) (Some own) cs)
@@ -96,7 +96,7 @@ module _ {Y Z : Type 0} (A : List EventValue) (blocks : List KeptBlock) where
       by_test s true = refl
       by_test s false = refl
 
-  pub source_without : (all left : List (String Y × BTreeMap ℕ ℕ)) (source : String Y) (ks : BTreeMap ℕ ℕ) (rest : List (String Y × BTreeMap ℕ ℕ)) (old : Digests Z) (own : BTreeMap ℕ (List ℕ))
+  pub source_without : (all left : List (String Y × BTreeMap ℕ ℕ)) (source : String Y) (ks : BTreeMap ℕ ℕ) (rest : List (String Y × BTreeMap ℕ ℕ)) (old : DigestMap Z) (own : BTreeMap ℕ (List ℕ))
       → ((k : ℕ) → IsGathered byte_cmp (of_index A blocks k) (index_in all) (index_in left) (λ s. digest_mapped old s k)) → left ≡ (source, ks) ∷ rest
       → ((q : ℕ) → get nat_cmp own q ≡ digest_among A blocks (get nat_cmp ks q)) → length own.entries ≡ 0
       → (k : ℕ) → IsGathered byte_cmp (of_index A blocks k) (index_in all) (index_in rest) (λ s. digest_mapped old s k)
@@ -108,7 +108,7 @@ module _ {Y Z : Type 0} (A : List EventValue) (blocks : List KeptBlock) where
       empty [] h = refl
       empty (e ∷ es) h = absurd (omega (arith, h))
 
-  pub end : (index : Index Y) (left : List (String Y × BTreeMap ℕ ℕ)) (digests : Digests Z) → ((k : ℕ) → IsGathered byte_cmp (of_index A blocks k) (index_in index.entries) (index_in left) (λ s. digest_mapped digests s k)) → left ≡ []
+  pub end : (index : Index Y) (left : List (String Y × BTreeMap ℕ ℕ)) (digests : DigestMap Z) → ((k : ℕ) → IsGathered byte_cmp (of_index A blocks k) (index_in index.entries) (index_in left) (λ s. digest_mapped digests s k)) → left ≡ []
       → (s : List ℕ) (k : ℕ) → digest_mapped digests s k ≡ digest_among A blocks (position index s k)
   end index left digests g is s k =
       gather_end nat_list_cmp_total (of_index A blocks k) (index_in index.entries) (index_in left) (λ x. digest_mapped digests x k) (g k) (ap index_in is) s

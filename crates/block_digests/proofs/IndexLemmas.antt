@@ -15,7 +15,7 @@ use Rattle.attributes.specs.Bytes.{byte_cmp}
 use Rattle.attributes.specs.Event.{EventValue, source_of}
 use Rattle.attributes.specs.Sequence.{number_of}
 use Rattle.block_digests.specs.Block.{block_of, is_in_block}
-use Rattle.block_digests.specs.Kept.{AreAlike, HasDigestsOf, IsKeptOf, KeptBlock, block_at, position_of}
+use Rattle.block_digests.specs.Kept.{KeepsDigests, HasDigestsOf, IsKeptOf, KeptBlock, block_at, position_of}
 use Rattle.block_digests.specs.steps.Index.{Index, IsIndex, index_in, kept_in, position}
 use Rattle.block_digests.proofs.GatherLemmas.{no_value, same_value}
 use Rattle.block_digests.proofs.ListLemmas.{and_left, and_right}
@@ -154,7 +154,7 @@ module _ {Y : Type 0} where
     before (x ∷ xs) b zero h = refl
     before (x ∷ xs) b (suc i) h = before xs b i (omega (arith, h))
 
-    pub alike_made : (blocks : List KeptBlock) (b : KeptBlock) → length blocks ≡ n → b.places ≡ [] → b.digest ≡ None → AreAlike (kept_in old blocks) (kept_in new (blocks ++ b ∷ []))
+    pub alike_made : (blocks : List KeptBlock) (b : KeptBlock) → length blocks ≡ n → b.places ≡ [] → b.digest ≡ None → KeepsDigests (kept_in old blocks) (kept_in new (blocks ++ b ∷ []))
     alike_made blocks b len places digest s j = by_test (bytes_eq s source && (j == k)) refl
       where
         at_new : AlikeAt blocks (blocks ++ b ∷ []) (Some n) None
@@ -174,7 +174,7 @@ module _ {Y : Type 0} where
             subst (λ o. AlikeAt blocks (blocks ++ b ∷ []) o (position old s j)) (sym (at_end s j t)) (subst (AlikeAt blocks (blocks ++ b ∷ []) (Some n)) (sym (ap₂ (position old) a.0 a.1 ∙ none)) at_new)
         by_test false t = subst (λ o. AlikeAt blocks (blocks ++ b ∷ []) o (position old s j)) (sym (was s j t)) (at_old (position old s j) (λ i h. ix.in_range s j i h))
 
-  pub alike_same : (old new : Index Y) (blocks after : List KeptBlock) → blocks ≡ after → ((s : List ℕ) (j : ℕ) → position new s j ≡ position old s j) → AreAlike (kept_in old blocks) (kept_in new after)
+  pub alike_same : (old new : Index Y) (blocks after : List KeptBlock) → blocks ≡ after → ((s : List ℕ) (j : ℕ) → position new s j ≡ position old s j) → KeepsDigests (kept_in old blocks) (kept_in new after)
   alike_same old new blocks after same h s j =
       (ap₂ (λ l o. option_map_or (λ x. x.places) (option_and_then (slice_get l) o) []) (sym same) (h s j), ap₂ (λ l o. option_map_or (λ x. x.digest) (option_and_then (slice_get l) o) None) (sym same) (h s j))
 

@@ -12,25 +12,25 @@ use Rattle.inbox.specs.Ordered.{append_new, has, in_order}
 use Rattle.inbox.specs.Sets.{AreEvents, set_of}
 use Rattle.block_digests.specs.Block.{has_block, is_in_block, line_cmp, lines}
 use Rattle.block_digests.specs.Digest.{digest_in}
-use Rattle.block_digests.specs.Kept.{AreAlike, HasDigestsOf, IsForgotten, IsKeptOf, IsNoted, Kept, KeptBlock, block_at, digest_kept, places_at, places_of}
+use Rattle.block_digests.specs.Kept.{KeepsDigests, HasDigestsOf, IsForgotten, IsKeptOf, IsNoted, KeptBlocks, KeptBlock, block_at, digest_kept, places_at, places_of}
 use Rattle.block_digests.specs.Laws.{DigestsOfArrivals}
 use Rattle.block_digests.specs.steps.Mended.{AreMended, AreMendedOrSame, digest_over, fresh_digest, mended}
 use Rattle.block_digests.proofs.GatherLemmas.{no_value}
 use Rattle.block_digests.proofs.ListLemmas.{all_append}
 use Rattle.block_digests.proofs.PlaceLemmas.{digest_of_places, places_more}
 
-pub kept_alike : (A : List EventValue) (old new : Kept) → IsKeptOf A old → AreAlike old new → IsKeptOf A new
+pub kept_alike : (A : List EventValue) (old new : KeptBlocks) → IsKeptOf A old → KeepsDigests old new → IsKeptOf A new
 kept_alike A old new k a = record {
   places = λ s q. (a s q).0 ∙ k.places s q;
   digests = λ s q d h. k.digests s q d (sym (a s q).1 ∙ h);
 }
 
-pub noted_alike : (e : EventValue) (p : ℕ) (old mid new : Kept) → AreAlike old mid → IsNoted e p mid new → IsNoted e p old new
+pub noted_alike : (e : EventValue) (p : ℕ) (old mid new : KeptBlocks) → KeepsDigests old mid → IsNoted e p mid new → IsNoted e p old new
 noted_alike e p old mid new a n s q =
     ((n s q).0 ∙ ap (λ l. if is_in_block s q e then l ++ p ∷ [] else l) (a s q).0, (n s q).1 ∙ ap (λ o. if is_in_block s q e then None else o) (a s q).1)
 
 -- a block's change is noted
-module _ (e : EventValue) (old new : Kept) (b w : KeptBlock)
+module _ (e : EventValue) (old new : KeptBlocks) (b w : KeptBlock)
     (changed : (s : List ℕ) (q : ℕ) → is_in_block s q e ≡ true → (block_at old s q ≡ Some b) × (block_at new s q ≡ Some w))
     (unchanged : (s : List ℕ) (q : ℕ) → is_in_block s q e ≡ false → block_at new s q ≡ block_at old s q) where
   at_places : (s : List ℕ) (q : ℕ) (f : List ℕ → List ℕ) → w.places ≡ f b.places → (t : Bool) → is_in_block s q e ≡ t → places_at new s q ≡ (if is_in_block s q e then f (places_at old s q) else places_at old s q)
@@ -53,7 +53,7 @@ module _ (e : EventValue) (old new : Kept) (b w : KeptBlock)
   is_forgotten h d s q = (at_places s q (λ l. take (length l - 1) l) h (is_in_block s q e) refl, at_digest s q d (is_in_block s q e) refl)
 
 -- nothing is kept of an event's block
-pub none_forgotten : (e : EventValue) (kept : Kept) → ((s : List ℕ) (q : ℕ) → is_in_block s q e ≡ true → block_at kept s q ≡ None) → IsForgotten e kept kept
+pub none_forgotten : (e : EventValue) (kept : KeptBlocks) → ((s : List ℕ) (q : ℕ) → is_in_block s q e ≡ true → block_at kept s q ≡ None) → IsForgotten e kept kept
 none_forgotten e kept none s q = at (is_in_block s q e) refl
   where
     at : (t : Bool) → is_in_block s q e ≡ t
@@ -99,7 +99,7 @@ module _ (laws : DigestsOfArrivals) (A : List EventValue) (e : EventValue) (even
       (filter-append (is_in_block s q) A (e ∷ []) ∙ ap (λ b. filter (is_in_block s q) A ++ (if b then e ∷ [] else [])) f ∙ append-nil (filter (is_in_block s q) A))
       ∙ sym (laws A s q events)
 
-  pub kept_noted : (old after : Kept) (p : ℕ) → length A ≡ p → IsKeptOf A old → IsNoted e p old after → IsKeptOf (append_new key_cmp A (e ∷ [])) after
+  pub kept_noted : (old after : KeptBlocks) (p : ℕ) → length A ≡ p → IsKeptOf A old → IsNoted e p old after → IsKeptOf (append_new key_cmp A (e ∷ [])) after
   kept_noted old after p len k n = subst (λ B. IsKeptOf B after) (sym grown) (record {
     places = λ s q. places s q (is_in_block s q e) refl;
     digests = λ s q d h. digests s q d h (is_in_block s q e) refl;
@@ -119,7 +119,7 @@ module _ (laws : DigestsOfArrivals) (A : List EventValue) (e : EventValue) (even
       digests s q d h true t = absurd (no_value d (sym ((n s q).1 ∙ ap (λ c. if c then None else digest_kept old s q) t) ∙ h))
       digests s q d h false t = digest_stays s q t ∙ k.digests s q d (sym ((n s q).1 ∙ ap (λ c. if c then None else digest_kept old s q) t) ∙ h)
 
-  pub kept_forgotten : (old after : Kept) → IsKeptOf (append_new key_cmp A (e ∷ [])) old → IsForgotten e old after → IsKeptOf A after
+  pub kept_forgotten : (old after : KeptBlocks) → IsKeptOf (append_new key_cmp A (e ∷ [])) old → IsForgotten e old after → IsKeptOf A after
   kept_forgotten old after k n = record {
     places = λ s q. places s q (is_in_block s q e) refl;
     digests = λ s q d h. digests s q d h (is_in_block s q e) refl;
@@ -140,7 +140,7 @@ module _ (laws : DigestsOfArrivals) (A : List EventValue) (e : EventValue) (even
       digests s q d h true t = absurd (no_value d (sym ((n s q).1 ∙ ap (λ c. if c then None else digest_kept old s q) t) ∙ h))
       digests s q d h false t = sym (digest_stays s q t) ∙ was.digests s q d (sym ((n s q).1 ∙ ap (λ c. if c then None else digest_kept old s q) t) ∙ h)
 
-module _ (laws : DigestsOfArrivals) (A : List EventValue) (events : AreEvents A) (kept : Kept) (k : IsKeptOf A kept) where
+module _ (laws : DigestsOfArrivals) (A : List EventValue) (events : AreEvents A) (kept : KeptBlocks) (k : IsKeptOf A kept) where
   -- what is kept of a block, or is made of it, is its digest
   pub fresh_is : (s : List ℕ) (q : ℕ) → option_and_then (fresh_digest A) (block_at kept s q) ≡ digest_in (set_of A) s q
   fresh_is s q = at (block_at kept s q) refl
@@ -164,7 +164,7 @@ module _ (laws : DigestsOfArrivals) (A : List EventValue) (events : AreEvents A)
   mended_places None = refl
   mended_places (Some b) = refl
 
-  pub kept_mended : (after : Kept) → ((s : List ℕ) (q : ℕ) → (block_at after s q ≡ block_at kept s q) ⊎ (block_at after s q ≡ option_map (mended A) (block_at kept s q))) → IsKeptOf A after
+  pub kept_mended : (after : KeptBlocks) → ((s : List ℕ) (q : ℕ) → (block_at after s q ≡ block_at kept s q) ⊎ (block_at after s q ≡ option_map (mended A) (block_at kept s q))) → IsKeptOf A after
   kept_mended after m = record {
     places = λ s q. elim (m s q) [
       | inl same ↦ ap (λ o. option_map_or (λ b. b.places) o []) same ∙ k.places s q
@@ -176,7 +176,7 @@ module _ (laws : DigestsOfArrivals) (A : List EventValue) (events : AreEvents A)
     ];
   }
 
-  pub has_mended : (after : Kept) → ((s : List ℕ) (q : ℕ) → block_at after s q ≡ option_map (mended A) (block_at kept s q)) → HasDigestsOf A after
+  pub has_mended : (after : KeptBlocks) → ((s : List ℕ) (q : ℕ) → block_at after s q ≡ option_map (mended A) (block_at kept s q)) → HasDigestsOf A after
   has_mended after m s q = ap (λ o. option_map_or (λ b. b.digest) o None) (m s q) ∙ mended_digest (block_at kept s q) ∙ fresh_is s q
 
 -- the blocks of a list, mended or not, by where they stand

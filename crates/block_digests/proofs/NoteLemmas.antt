@@ -6,7 +6,7 @@ use Rattle.std.specs.Result.{OnOk}
 use Rattle.attributes.specs.Event.{EventValue, source_of}
 use Rattle.attributes.specs.Sequence.{number_of}
 use Rattle.block_digests.specs.Block.{block_of}
-use Rattle.block_digests.specs.Kept.{AreAlike, IsForgotten, IsNoted, Kept, KeptBlock}
+use Rattle.block_digests.specs.Kept.{KeepsDigests, IsForgotten, IsNoted, KeptBlocks, KeptBlock}
 use Rattle.block_digests.specs.steps.Index.{Index, IsIndex, kept_in, position}
 use Rattle.block_digests.proofs.IndexLemmas.{changed, in_block_at, unchanged}
 use Rattle.block_digests.proofs.KeptLemmas.{is_forgotten, is_noted, none_forgotten, noted_alike}
@@ -29,19 +29,19 @@ ok_both (Ok b) P Q S f h g = f h g
 ok_both (Err e) P Q S f h g = h
 
 module _ {Y : Type 0} where
-  pub noted_at : (index : Index Y) (n : ℕ) (ix : IsIndex index n) (blocks : List KeptBlock) (source : List ℕ) (m k i : ℕ) (b w : KeptBlock) (e : EventValue) (p : ℕ) (old : Kept)
+  pub noted_at : (index : Index Y) (n : ℕ) (ix : IsIndex index n) (blocks : List KeptBlock) (source : List ℕ) (m k i : ℕ) (b w : KeptBlock) (e : EventValue) (p : ℕ) (old : KeptBlocks)
       → source ≡ source_of e → number_of e ≡ Some m → k ≡ block_of m → position index source k ≡ Some i → slice_get blocks i ≡ Some b
-      → AreAlike old (kept_in index blocks) → w.places ≡ b.places ++ p ∷ [] → w.digest ≡ None → IsNoted e p old (kept_in index (slice_set blocks i w))
+      → KeepsDigests old (kept_in index blocks) → w.places ≡ b.places ++ p ∷ [] → w.digest ≡ None → IsNoted e p old (kept_in index (slice_set blocks i w))
   noted_at index n ix blocks source m k i b w e p old own number kk there had alike h d =
       let at : position index source (block_of m) ≡ Some i = ap (position index source) (sym kk) ∙ there in
       noted_alike e p old (kept_in index blocks) (kept_in index (slice_set blocks i w)) alike
       (is_noted e (kept_in index blocks) (kept_in index (slice_set blocks i w)) b w
       (changed index n ix blocks source m i b w e own number at had) (unchanged index n ix blocks source m i b w e own number at had) p h d)
 
-  pub alike_at : (index : Index Y) (blocks : List KeptBlock) (i : ℕ) (b w : KeptBlock) (old : Kept) → slice_get blocks i ≡ Some b → AreAlike old (kept_in index blocks)
-      → w ≡ b → AreAlike old (kept_in index (slice_set blocks i w))
+  pub alike_at : (index : Index Y) (blocks : List KeptBlock) (i : ℕ) (b w : KeptBlock) (old : KeptBlocks) → slice_get blocks i ≡ Some b → KeepsDigests old (kept_in index blocks)
+      → w ≡ b → KeepsDigests old (kept_in index (slice_set blocks i w))
   alike_at index blocks i b w old had alike same =
-      subst (λ l. AreAlike old (kept_in index l)) (sym (ap (slice_set blocks i) same ∙ set_same blocks i b had)) alike
+      subst (λ l. KeepsDigests old (kept_in index l)) (sym (ap (slice_set blocks i) same ∙ set_same blocks i b had)) alike
 
   pub forgotten_at : (index : Index Y) (n : ℕ) (ix : IsIndex index n) (blocks : List KeptBlock) (source : List ℕ) (m k i : ℕ) (b w : KeptBlock) (e : EventValue)
       → source ≡ source_of e → number_of e ≡ Some m → k ≡ block_of m → position index source k ≡ Some i → slice_get blocks i ≡ Some b

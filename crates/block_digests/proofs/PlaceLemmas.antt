@@ -11,7 +11,7 @@ use Rattle.block_digests.specs.Block.{has_block, is_in_block, line_cmp, lines}
 use Rattle.block_digests.specs.Digest.{digest_in}
 use Rattle.block_digests.specs.Kept.{places_from, places_of}
 use Rattle.block_digests.specs.steps.Mended.{digest_at, digest_over, events_at, rows_at}
-use Rattle.block_digests.specs.steps.Rows.{row_cmp, row_of}
+use Rattle.block_digests.specs.steps.Rows.{numbered_text_cmp, numbered_text_of}
 use Rattle.block_digests.proofs.DigestLemmas.{lines-append}
 use Rattle.block_digests.proofs.RowLemmas.{push_row}
 
@@ -37,11 +37,11 @@ events_placed A ps i o h k = ap (events_at A) (take_place ps i h) ∙ events_at-
 
 -- the row of the event at one place more
 pub row_placed : (A : List EventValue) (ps : List ℕ) (i : ℕ) (e : EventValue) → i < length ps → slice_get A (slice_index ps i) ≡ Some e
-    → insert_key row_cmp (rows_at A (take i ps)) (row_of e) ≡ rows_at A (take (i + 1) ps)
+    → insert_key numbered_text_cmp (rows_at A (take i ps)) (numbered_text_of e) ≡ rows_at A (take (i + 1) ps)
 row_placed A ps i e h k =
-    sym (ap (λ l. in_order row_cmp (map row_of l)) (events_placed A ps i (Some e) h k)
-    ∙ ap (in_order row_cmp) (map-append row_of (events_at A (take i ps)) (e ∷ []))
-    ∙ push_row [] (map row_of (events_at A (take i ps))) (row_of e))
+    sym (ap (λ l. in_order numbered_text_cmp (map numbered_text_of l)) (events_placed A ps i (Some e) h k)
+    ∙ ap (in_order numbered_text_cmp) (map-append numbered_text_of (events_at A (take i ps)) (e ∷ []))
+    ∙ push_row [] (map numbered_text_of (events_at A (take i ps))) (numbered_text_of e))
 
 -- its line
 pub line_placed : (A : List EventValue) (ps : List ℕ) (i : ℕ) (e : EventValue) → i < length ps → slice_get A (slice_index ps i) ≡ Some e
@@ -63,7 +63,7 @@ events_missing A ps i h k = sym (events_placed A ps i None h k ∙ append-nil (e
 
 pub row_missing : (A : List EventValue) (ps : List ℕ) (i : ℕ) → i < length ps → slice_get A (slice_index ps i) ≡ None
     → rows_at A (take i ps) ≡ rows_at A (take (i + 1) ps)
-row_missing A ps i h k = ap (λ l. in_order row_cmp (map row_of l)) (events_missing A ps i h k)
+row_missing A ps i h k = ap (λ l. in_order numbered_text_cmp (map numbered_text_of l)) (events_missing A ps i h k)
 
 -- ---- the places of a block
 item_behind : (P : List EventValue) (e : EventValue) (A : List EventValue) → slice_get (P ++ e ∷ A) (length P) ≡ Some e

@@ -21,7 +21,7 @@ pub record KeptBlock : Type 0 where
   pub digest : Option (List ℕ)
 
 -- blocks, and sources in byte order, each with the numbers of its blocks and where they stand
-pub record Kept : Type 0 where
+pub record KeptBlocks : Type 0 where
   pub index : List (List ℕ × List (ℕ × ℕ))
   pub blocks : List KeptBlock
 
@@ -31,15 +31,15 @@ position_of index source k =
     option_and_then (λ ks. lookup (is_at (nat_cmp k)) ks) (lookup (is_at (byte_cmp source)) index)
 
 -- what is kept for a source and the number of a block, where something is
-abbrev pub block_at : Kept → List ℕ → ℕ → Option KeptBlock
+abbrev pub block_at : KeptBlocks → List ℕ → ℕ → Option KeptBlock
 block_at kept source k = option_and_then (slice_get kept.blocks) (position_of kept.index source k)
 
 -- the places that are kept for a block
-abbrev pub places_at : Kept → List ℕ → ℕ → List ℕ
+abbrev pub places_at : KeptBlocks → List ℕ → ℕ → List ℕ
 places_at kept source k = option_map_or (λ b. b.places) (block_at kept source k) []
 
 -- the digest that is kept for a block, none where it is stale or nothing is kept
-abbrev pub digest_kept : Kept → List ℕ → ℕ → Option (List ℕ)
+abbrev pub digest_kept : KeptBlocks → List ℕ → ℕ → Option (List ℕ)
 digest_kept kept source k = option_map_or (λ b. b.digest) (block_at kept source k) None
 
 -- the places of a block's events in a list, ascending, where the first of the list stands at i
@@ -54,18 +54,18 @@ abbrev pub places_of : List EventValue → List ℕ → ℕ → List ℕ
 places_of A source k = places_from 0 A source k
 
 -- the places of each block are those of its events, and a digest that is there is the block's
-pub record IsKeptOf (A : List EventValue) (kept : Kept) : Type 0 where
+pub record IsKeptOf (A : List EventValue) (kept : KeptBlocks) : Type 0 where
   pub places : (source : List ℕ) (k : ℕ) → places_at kept source k ≡ places_of A source k
   pub digests : (source : List ℕ) (k : ℕ) (d : List ℕ) → digest_kept kept source k ≡ Some d
       → digest_in (set_of A) source k ≡ Some d
 
 -- no block is stale: each has the digest of its events, and there is none where there are no events
-abbrev pub HasDigestsOf : List EventValue → Kept → Type 0
+abbrev pub HasDigestsOf : List EventValue → KeptBlocks → Type 0
 HasDigestsOf A kept = (source : List ℕ) (k : ℕ)
     → digest_kept kept source k ≡ digest_in (set_of A) source k
 
 -- the event stands at the place, its block is stale, and the other blocks are as they were
-abbrev pub IsNoted : EventValue → ℕ → Kept → Kept → Type 0
+abbrev pub IsNoted : EventValue → ℕ → KeptBlocks → KeptBlocks → Type 0
 IsNoted e place old new = (source : List ℕ) (k : ℕ)
     → (places_at new source k
     ≡ (if is_in_block source k e then places_at old source k ++ place ∷ []
@@ -75,7 +75,7 @@ IsNoted e place old new = (source : List ℕ) (k : ℕ)
 
 -- the place that was noted last for the event's block is gone, the block is stale, and the other
 -- blocks are as they were
-abbrev pub IsForgotten : EventValue → Kept → Kept → Type 0
+abbrev pub IsForgotten : EventValue → KeptBlocks → KeptBlocks → Type 0
 IsForgotten e old new = (source : List ℕ) (k : ℕ)
     → (places_at new source k
     ≡ (if is_in_block source k e
@@ -85,24 +85,24 @@ IsForgotten e old new = (source : List ℕ) (k : ℕ)
     ≡ (if is_in_block source k e then None else digest_kept old source k))
 
 -- the same places and digests
-abbrev pub AreAlike : Kept → Kept → Type 0
-AreAlike old new = (source : List ℕ) (k : ℕ) → (places_at new source k ≡ places_at old source k)
+abbrev pub KeepsDigests : KeptBlocks → KeptBlocks → Type 0
+KeepsDigests old new = (source : List ℕ) (k : ℕ) → (places_at new source k ≡ places_at old source k)
     × (digest_kept new source k ≡ digest_kept old source k)
 
 -- a map by source and number of a block, as it is iterated
-abbrev pub Digests : Type 0 → Type 0
-Digests Y = BTreeMap (String Y) (BTreeMap ℕ (List ℕ))
+abbrev pub DigestMap : Type 0 → Type 0
+DigestMap Y = BTreeMap (String Y) (BTreeMap ℕ (List ℕ))
 
 -- the digests of a source: there is one, and they ascend by the numbers of their blocks
 abbrev pub AreOfSource : BTreeMap ℕ (List ℕ) → Type 0
 AreOfSource blocks = (blocks.entries ≢ []) × IsStrictlySortedBy nat_cmp (keys_of blocks.entries)
 
 -- the digest of a source's block in a map, where it has one
-abbrev pub digest_mapped : {Y : Type 0} → Digests Y → List ℕ → ℕ → Option (List ℕ)
+abbrev pub digest_mapped : {Y : Type 0} → DigestMap Y → List ℕ → ℕ → Option (List ℕ)
 digest_mapped digests source k = option_and_then (λ m. get nat_cmp m k) (get_by_text digests source)
 
 -- the map has the digests of the blocks of the set of A, and no source without one, in byte order
-pub record AreDigestsOf {Y : Type 0} (A : List EventValue) (digests : Digests Y) : Type 0 where
+pub record AreDigestsOf {Y : Type 0} (A : List EventValue) (digests : DigestMap Y) : Type 0 where
   pub found : (source : List ℕ) (k : ℕ)
       → digest_mapped digests source k ≡ digest_in (set_of A) source k
   pub of_sources : AllByRecursion (λ e. AreOfSource e.1) digests.entries

@@ -23,5 +23,5 @@ abbrev pub number_or_0 : EventValue → ℕ
 number_or_0 e = option_map_or (λ n. n) (number_of e) 0
 
 -- each event has a number
-abbrev pub AreNumbered : List EventValue → Type 0
-AreNumbered E = AllByRecursion (λ e. (n : ℕ) × (number_of e ≡ Some n)) E
+abbrev pub HaveEachNumber : List EventValue → Type 0
+HaveEachNumber E = AllByRecursion (λ e. (n : ℕ) × (number_of e ≡ Some n)) E

@@ -6,7 +6,7 @@ use Rattle.attributes.specs.Event.{EventValue}
 use Rattle.inbox.specs.Sets.{AreEvents, set_of, union}
 use Rattle.block_digests.specs.Block.{block_text}
 use Rattle.block_digests.specs.Lacking.{lacking}
-use Rattle.block_digests.specs.Number.{AreNumbered}
+use Rattle.block_digests.specs.Number.{HaveEachNumber}
 
 -- the set F, with what it lacks of E
 abbrev pub told : List EventValue → List EventValue → List EventValue
@@ -27,6 +27,6 @@ pub record Unite (E F : List EventValue) : Type 0 where
 -- one call each way unites the sets of two sites, or at one of the calls two different texts of one
 -- block, one of each site's set at that call, have one SHA-256
 abbrev pub GossipsUnite : Type 0
-GossipsUnite = (A B : List EventValue) → AreEvents A → AreEvents B → AreNumbered A → AreNumbered B
+GossipsUnite = (A B : List EventValue) → AreEvents A → AreEvents B → HaveEachNumber A → HaveEachNumber B
     → Unite (set_of A) (set_of B)
     ⊎ (Collide (set_of A) (set_of B) ⊎ Collide (told (set_of A) (set_of B)) (set_of A))

@@ -4,7 +4,7 @@ ghost use Rattle.std.specs.Prelude.{◌≡◌, IfOk, OnErr, map, true};
 ghost use Rattle.sha2.specs.Sha256.{sha256};
 ghost use Rattle.block_digests.specs.Block as spec;
 ghost use Rattle.block_digests.specs.Digest.{digest_in};
-ghost use Rattle.block_digests.specs.steps.Rows.{joined, rows_of};
+ghost use Rattle.block_digests.specs.steps.Rows.{joined, numbered_texts_of};
 
 use attributes::{Batch, Sequence, Sequenced};
 use sha2::{Digest, Sha256};
@@ -46,7 +46,7 @@ fn rows<'a>(
     k: u64,
 ) -> Result<BTreeSet<(u64, &'a str)>, AllocError>
     ensures { IfOk result (λ set.
-        map (λ r. (r.0, r.1.now)) set.keys ≡ rows_of events.now source.now k) }
+        map (λ r. (r.0, r.1.now)) set.keys ≡ numbered_texts_of events.now source.now k) }
 {
     let mut set = BTreeSet::new(alloc);
     for i in 0..events.len() {

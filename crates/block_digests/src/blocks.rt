@@ -14,7 +14,7 @@ ghost use Rattle.inbox.specs.Ordered.{append_new, has};
 ghost use Rattle.inbox.specs.Sets.{AreEvents};
 ghost use Rattle.sha2.specs.Sha256.{sha256};
 ghost use Rattle.block_digests.specs.Block.{line_cmp, lines};
-ghost use Rattle.block_digests.specs.Kept.{AreAlike, AreDigestsOf, AreOfSource, HasDigestsOf, IsForgotten, IsKeptOf, IsNoted, digest_mapped, places_at};
+ghost use Rattle.block_digests.specs.Kept.{KeepsDigests, AreDigestsOf, AreOfSource, HasDigestsOf, IsForgotten, IsKeptOf, IsNoted, digest_mapped, places_at};
 ghost use Rattle.block_digests.specs.steps.Index.{IsIndex, kept_in, position};
 ghost use Rattle.block_digests.specs.steps.Mended.{AreMended, AreMendedOrSame, digest_among, events_at, fresh_digest, is_rise, mended, rows_at};
 
@@ -55,10 +55,10 @@ pub struct Blocks {
 
 impl Model for Blocks {
     ghost use Rattle.std.specs.Prelude.{vec_len};
-    ghost use Rattle.block_digests.specs.Kept.{Kept};
+    ghost use Rattle.block_digests.specs.Kept.{KeptBlocks};
     ghost use Rattle.block_digests.specs.steps.Index.{IsIndex, kept_in};
 
-    ghost Value = { Kept };
+    ghost Value = { KeptBlocks };
 
     ghost view = { λ s. kept_in s.index s.blocks.items };
 
@@ -230,7 +230,7 @@ fn find_or_make(
     requires { IsIndex index.old (vec_len blocks.old) }
     ensures index { IsIndex index.new (vec_len blocks.new) }
     ensures there { IfOk result (λ i. position index.new source.now k ≡ Some i) }
-    ensures alike { AreAlike (kept_in index.old blocks.old.items)
+    ensures alike { KeepsDigests (kept_in index.old blocks.old.items)
         (kept_in index.new blocks.new.items) }
 {
     if let Some(i) = position(index, source, k) {
@@ -348,7 +348,7 @@ impl Blocks {
             → has key_cmp A event.now ≡ false → length A ≡ place
             → OnOk result (IsKeptOf (append_new key_cmp A (event.now ∷ [])) self.new) }
         ensures event { IsEvent event.now }
-        ensures alike { OnErr result (AreAlike self.old self.new) }
+        ensures alike { OnErr result (KeepsDigests self.old self.new) }
         ensures same { (A : List EventValue) → IsKeptOf A self.old
             → OnErr result (IsKeptOf A self.new) }
     {

@@ -8,7 +8,7 @@ use Rattle.clap.specs.Walk.{Row, Text, row_of, rows_of}
 use Rattle.clap.specs.declared.parser.matches.Found.{Found}
 use Rattle.clap.specs.declared.parser.matches.MatchedArg.{MatchedArg}
 use Rattle.clap.specs.declared.parser.matches.ValueSource.{ValueSource}
-use Rattle.command_words.specs.Plans.{IsBase, IsBaseNumber, IsPart, IsPartCount, IsPartNumber, is_given, is_of_words}
+use Rattle.command_words.specs.Plans.{IsBase, IsBaseNumber, IsPartWritten, IsPartCount, IsPartNumber, is_given, is_of_words}
 
 find_row : (id : Text) (es : List Entry) → find (λ (r : Row). bytes_eq r.id id) (map row_of es) ≡ option_map row_of (find (λ (e : Entry). bytes_eq e.0.now id) es)
 find_row id [] = refl
@@ -37,7 +37,7 @@ no_base text None none has = has
 
 -- a text that is the number of no part of so many names no part, however many they are said to be
 pub no_part : (word text : List ℕ) (count n : ℕ) (part : Option ℕ) → IsPartCount word count → ((i : ℕ) → IsPartNumber text count i → ⊥)
-    → IsPartCount word n → IsPart (Some text) n part → ⊥
+    → IsPartCount word n → IsPartWritten (Some text) n part → ⊥
 no_part word text count n (Some i) at none are has =
     none i (subst (λ (k : ℕ). IsPartNumber text k i) (sym are.is_number.value ∙ at.is_number.value) has)
 no_part word text count n None at none are has = has

@@ -86,11 +86,11 @@ pub record IsPartNumber (text : List ℕ) (count i : ℕ) : Type 0 where
   pub below : i < count
 
 -- the part is the one of so many that the text writes; none where there is no text
-abbrev pub IsPart : Option (List ℕ) → ℕ → Option ℕ → Type 0
-IsPart (Some text) count (Some i) = IsPartNumber text count i
-IsPart None count None = Unit {0}
-IsPart (Some text) count None = ⊥
-IsPart None count (Some i) = ⊥
+abbrev pub IsPartWritten : Option (List ℕ) → ℕ → Option ℕ → Type 0
+IsPartWritten (Some text) count (Some i) = IsPartNumber text count i
+IsPartWritten None count None = Unit {0}
+IsPartWritten (Some text) count None = ⊥
+IsPartWritten None count (Some i) = ⊥
 
 -- the base is the number that the text writes; none where there is no text
 abbrev pub IsBase : Option (List ℕ) → Option ℕ → Type 0
@@ -159,14 +159,14 @@ HasPages rows pages.All =
     (is_given rows (codes "all") ≡ true) × (is_given rows (codes "from") ≡ false)
 
 -- a database is given, or a file
-abbrev pub AreSome : Option Text → List Text → Type 0
-AreSome db files = (is_some db ≡ true) ⊎ (files ≢ [])
+abbrev pub IsDatabaseOrFiles : Option Text → List Text → Type 0
+IsDatabaseOrFiles db files = (is_some db ≡ true) ⊎ (files ≢ [])
 
 -- a plan with one answer has the texts, and the values that they write, that were matched for its
 -- arguments
 abbrev pub HasTextsOnce : List Row → Once → Type 0
 HasTextsOnce rows (once.Ask query db files has_lines) = (db ≡ first_of (codes "db") rows)
-    × (files ≡ texts_in rows (codes "file")) × AreSome db files
+    × (files ≡ texts_in rows (codes "file")) × IsDatabaseOrFiles db files
     × (has_lines ≡ is_given rows (codes "lines"))
 HasTextsOnce rows (once.Summary db) = db ≡ text_in rows (codes "db")
 HasTextsOnce rows (once.Take db files has_lines) = (db ≡ text_in rows (codes "db"))
@@ -184,7 +184,7 @@ HasTextsOnce rows (once.Order request) = HasRequestOf rows request
 HasTextsOnce rows (once.Relay db after is_all) = (db ≡ text_in rows (codes "db"))
     × IsNumber (text_in rows (codes "after")) after × (is_all ≡ is_given rows (codes "all"))
 HasTextsOnce rows (once.Part count part files has_lines) =
-    IsPartCount (text_in rows (codes "of")) count × IsPart (first_of (codes "part") rows) count part
+    IsPartCount (text_in rows (codes "of")) count × IsPartWritten (first_of (codes "part") rows) count part
     × (files ≡ texts_in rows (codes "file")) × (has_lines ≡ is_given rows (codes "lines"))
     × (first_of (codes "into") rows ≡ None)
 
@@ -194,7 +194,7 @@ HasTextsOf rows (plan.Alone (alone.Once asked)) = HasTextsOnce rows asked
 HasTextsOf rows (plan.Alone (alone.Follow lines)) =
     (lines.db ≡ text_in rows (codes "db")) × (lines.file ≡ text_in rows (codes "file"))
 HasTextsOf rows (plan.Alone (alone.Check judged)) = (judged.db ≡ first_of (codes "db") rows)
-    × (judged.files ≡ texts_in rows (codes "file")) × AreSome judged.db judged.files
+    × (judged.files ≡ texts_in rows (codes "file")) × IsDatabaseOrFiles judged.db judged.files
     × (judged.has_lines ≡ is_given rows (codes "lines"))
     × (judged.is_for_number ≡ is_given rows (codes "numbers"))
 HasTextsOf rows (plan.Alone (alone.Number lines)) = (lines.db ≡ text_in rows (codes "db"))
@@ -263,6 +263,6 @@ abbrev pub AreFaulty : List Text → Type 0
 AreFaulty words = (asked : Invocation) → IsInvocation words asked → ⊥
 
 -- the number of the reason, from 1
-abbrev pub number_of : Faulty → ℕ
-number_of faulty.OutOfMemory = 1
-number_of (faulty.Words text is_help) = 2
+abbrev pub number_of_reason : Faulty → ℕ
+number_of_reason faulty.OutOfMemory = 1
+number_of_reason (faulty.Words text is_help) = 2

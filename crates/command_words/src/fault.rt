@@ -15,11 +15,11 @@ pub enum Faulty {
 }
 
 impl Faulty {
-    ghost use Rattle.command_words.specs.Plans.{number_of};
+    ghost use Rattle.command_words.specs.Plans.{number_of_reason};
 
     /// The number of the reason, from 1.
     pub fn number(&self) -> u8
-        ensures { result ≡ number_of self.now }
+        ensures { result ≡ number_of_reason self.now }
     {
         match self {
             Faulty::OutOfMemory => 1,

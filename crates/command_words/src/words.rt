@@ -2,7 +2,7 @@
 ghost use Rattle.std.specs.Prelude.{◌≡◌, ℕ, IfOk, IfErr, None, Option, Some, codes, map};
 ghost use Rattle.clap.specs.Words.{first_of, found_of, rows_of};
 ghost use Rattle.command_words.specs.Commands.{word_of};
-ghost use Rattle.command_words.specs.Plans.{AreFaulty, AreSome, Blames, HasPages, HasRequestOf, HasTextsOf, HasValuesOf, HaveNoInvocation, HaveNoPlan, IsBase, IsInvocation, IsInvocationFor, IsPart, IsPartCount, command_of, text_in};
+ghost use Rattle.command_words.specs.Plans.{AreFaulty, IsDatabaseOrFiles, Blames, HasPages, HasRequestOf, HasTextsOf, HasValuesOf, HaveNoInvocation, HaveNoPlan, IsBase, IsInvocation, IsInvocationFor, IsPartWritten, IsPartCount, command_of, text_in};
 ghost use Rattle.command_words.specs.declared.command.Command.TheVariants as command;
 ghost use Rattle.command_words.specs.declared.request.Invocation.{Invocation};
 ghost use Rattle.command_words.specs.declared.request.Pages.{Pages};
@@ -345,10 +345,10 @@ fn parts_shown(alloc: Global, matches: &ArgMatches<'_>) -> Result<Plan, Faulty>
 fn given_part(alloc: Global, matches: &ArgMatches<'_>, count: u64) -> Result<Option<u64>, Faulty>
     requires { IsPartCount (text_in (rows_of (found_of matches.now)) (codes "of")) count }
     ensures ok { IfOk result
-        (IsPart (first_of (codes "part") (rows_of (found_of matches.now))) count) }
+        (IsPartWritten (first_of (codes "part") (rows_of (found_of matches.now))) count) }
     ensures err { IfErr result (Blames ((n : ℕ) (part : Option ℕ)
         → IsPartCount (text_in (rows_of (found_of matches.now)) (codes "of")) n
-        → IsPart (first_of (codes "part") (rows_of (found_of matches.now))) n part → ⊥)) }
+        → IsPartWritten (first_of (codes "part") (rows_of (found_of matches.now))) n part → ⊥)) }
 {
     match matches.get_str("part") {
         Some(text) => match part_number(alloc, text, count) {

@@ -11,7 +11,7 @@ use Rattle.std.proofs.lemmas.Map.Lookups.{exact_bytes}
 use Rattle.std.specs.Map.{keys_of}
 use Rattle.std.proofs.lemmas.Map.Keys.{sorted_tail}
 use Rattle.coverage.specs.Intervals.{Interval, holds, HoldsAll}
-use Rattle.coverage.specs.Numbers.{byte_cmp, Entry, Entries, IsEntry, InOrder, AreListed, AreCovered, numbers_in, holds_in}
+use Rattle.coverage.specs.Numbers.{byte_cmp, Entry, Entries, IsEntry, AreSourcesInOrder, AreListed, AreCovered, numbers_in, holds_in}
 use Rattle.coverage.specs.NumbersText.{numbers_text}
 use Rattle.coverage.specs.CoverText.{IsCoverText}
 use Rattle.coverage.specs.steps.Entries.{sources_in}
@@ -63,16 +63,16 @@ uncovered_source own all left e rest h c is none covers =
 
 -- ---- the law: what holds the same numbers is the same
 -- a source below the first is absent
-absent_below : (e : Entry) (es : Entries) (s : List ℕ) → InOrder (e ∷ es) → byte_cmp s e.0 ≡ Less → numbers_in (e ∷ es) s ≡ []
+absent_below : (e : Entry) (es : Entries) (s : List ℕ) → AreSourcesInOrder (e ∷ es) → byte_cmp s e.0 ≡ Less → numbers_in (e ∷ es) s ≡ []
 absent_below e es s h less = numbers_in-nowhere (e ∷ es) s (go (e ∷ es) h less)
   where
-    go : (l : Entries) → InOrder l → byte_cmp s (entry_at l 0).0 ≡ Less → (k : ℕ) → k < length l → s ≡ (entry_at l k).0 → ⊥
+    go : (l : Entries) → AreSourcesInOrder l → byte_cmp s (entry_at l 0).0 ≡ Less → (k : ℕ) → k < length l → s ≡ (entry_at l k).0 → ⊥
     go l sorted first zero hk = apart_from_less s (entry_at l 0).0 first
     go l sorted first (suc k) hk =
         apart_from_less s (entry_at l (suc k)).0 (byte_cmp-chain s (entry_at l 0).0 (entry_at l (suc k)).0 first (InOrder-at l 0 (suc k) sorted (omega arith) hk))
 
 -- a source that the first list holds, and that is below the second's first
-not_same_first : (d e : Entry) (ds es : Entries) → IsEntry d → InOrder (e ∷ es) → ((s : List ℕ) (n : ℕ) → holds_in (d ∷ ds) s n ≡ holds_in (e ∷ es) s n) → byte_cmp d.0 e.0 ≡ Less → ⊥
+not_same_first : (d e : Entry) (ds es : Entries) → IsEntry d → AreSourcesInOrder (e ∷ es) → ((s : List ℕ) (n : ℕ) → holds_in (d ∷ ds) s n ≡ holds_in (e ∷ es) s n) → byte_cmp d.0 e.0 ≡ Less → ⊥
 not_same_first d e ds es entry h same less =
     let held = holds_first d.1 entry.2 entry.3 in
     let here : holds_in (d ∷ ds) d.0 held.0 ≡ true = ap (λ l. holds l held.0) (numbers_in-head d ds d.0 refl) ∙ held.1 in
@@ -80,7 +80,7 @@ not_same_first d e ds es entry h same less =
     both_ways _ there (sym (same d.0 held.0) ∙ here)
 
 -- a first source doesn't stand again
-pub absent_again : (e : Entry) (es : Entries) → InOrder (e ∷ es) → numbers_in es e.0 ≡ []
+pub absent_again : (e : Entry) (es : Entries) → AreSourcesInOrder (e ∷ es) → numbers_in es e.0 ≡ []
 absent_again e es h = numbers_in-nowhere es e.0 (λ k hk. apart_from_less e.0 (entry_at es k).0 (InOrder-at (e ∷ es) 0 (suc k) h (omega arith) (omega arith)))
 
 pub same_summary : (s t : Entries) → AreListed s → AreListed t → ((x : List ℕ) (n : ℕ) → holds_in s x n ≡ holds_in t x n) → s ≡ t

@@ -24,7 +24,7 @@ use Rattle.std.specs.List.Sorted.{IsStrictlySortedBy}
 use Rattle.std.specs.Map.{keys_of, lookup, set_value}
 use Rattle.std.proofs.lemmas.Map.Keys.{sorted_head, sorted_tail}
 use Rattle.coverage.specs.Intervals.{Interval, holds, IsCanonical}
-use Rattle.coverage.specs.Numbers.{byte_cmp, Entry, Entries, IsEntry, AreEntries, InOrder, AreListed, numbers_in, holds_in, names_in}
+use Rattle.coverage.specs.Numbers.{byte_cmp, Entry, Entries, IsEntry, AreEntries, AreSourcesInOrder, AreListed, numbers_in, holds_in, names_in}
 use Rattle.coverage.specs.steps.Places.{entry_at, EndsBefore}
 use Rattle.coverage.specs.steps.Entries.{entry_in, sources_in}
 use Rattle.coverage.proofs.HoldsLemmas.{holds-nil}
@@ -96,7 +96,7 @@ below_at q [] i h hi = absurd (not-suc-le-zero hi)
 below_at q (e ∷ es) zero h hi = h.0
 below_at q (e ∷ es) (suc i) h hi = below_at q es i h.1 (le_of_suc-le-suc hi)
 
-pub InOrder-at : (es : Entries) (i j : ℕ) → InOrder es → i < j → j < length es → byte_cmp (entry_at es i).0 (entry_at es j).0 ≡ Less
+pub InOrder-at : (es : Entries) (i j : ℕ) → AreSourcesInOrder es → i < j → j < length es → byte_cmp (entry_at es i).0 (entry_at es j).0 ≡ Less
 InOrder-at [] i j h lt hj = absurd (not-suc-le-zero hj)
 InOrder-at (e ∷ es) i zero h lt hj = absurd (not-suc-le-zero lt)
 InOrder-at (e ∷ es) zero (suc j) h lt hj = below_at e.0 es j (sorted_head _ e.0 (keys_of es) h) (le_of_suc-le-suc hj)
@@ -161,7 +161,7 @@ pub InOrder-cons : {X : Type 0} (e : List ℕ × X) (es : List (List ℕ × X)) 
 unfolding IsStrictlySortedBy
 InOrder-cons e es h t = (h, t)
 
-pub InOrder-nil : InOrder []
+pub InOrder-nil : AreSourcesInOrder []
 unfolding IsStrictlySortedBy
 InOrder-nil = tt
 
@@ -286,7 +286,7 @@ sources_in-insert_entry (e ∷ es) k v = elim (cases_order (byte_cmp (string_byt
 ]
 
 -- other numbers at a source that the map has
-pub sources_in-set_value : {Y : Type 0} (es : List (String Y × List Interval)) (bs : List ℕ) (v w : List Interval) → lookup (is_at (text_cmp bs)) es ≡ Some v → InOrder (sources_in es)
+pub sources_in-set_value : {Y : Type 0} (es : List (String Y × List Interval)) (bs : List ℕ) (v w : List Interval) → lookup (is_at (text_cmp bs)) es ≡ Some v → AreSourcesInOrder (sources_in es)
     → sources_in (set_value (is_at (text_cmp bs)) es w) ≡ insert_entry byte_cmp (sources_in es) bs w
 sources_in-set_value [] bs v w f h = absurd (none_is_not_some v f)
   where
@@ -309,7 +309,7 @@ pub put_found : {Y : Type 0} (m n : List (String Y × List Interval)) (now : Ent
     → AreListed now → n ≡ set_value (is_at (text_cmp bs)) m w → sources_in n ≡ insert_entry byte_cmp now source w
 put_found m n now bs source v w seen same found h is =
     ap sources_in is
-    ∙ sources_in-set_value m bs v w (sym found) (subst InOrder (sym seen) h.1)
+    ∙ sources_in-set_value m bs v w (sym found) (subst AreSourcesInOrder (sym seen) h.1)
     ∙ ap₂ (λ (l : Entries) (k : List ℕ). insert_entry byte_cmp l k w) seen same
 
 pub put_new : {Y : Type 0} (m n : List (String Y × List Interval)) (now : Entries) (k : String Y) (source : List ℕ) (w : List Interval) → sources_in m ≡ now → string_bytes k ≡ source → n ≡ insert_entry string_cmp m k w
@@ -388,7 +388,7 @@ above_push : (q : List ℕ) (es : Entries) (p : Entry) → AllByRecursion (λ y.
 above_push q [] p h new = (new, tt)
 above_push q (e ∷ es) p h new = (h.0, above_push q es p h.1 new)
 
-pub InOrder-push : (es : Entries) (p : Entry) → InOrder es → EndsBefore es p.0 → InOrder (es ++ p ∷ [])
+pub InOrder-push : (es : Entries) (p : Entry) → AreSourcesInOrder es → EndsBefore es p.0 → AreSourcesInOrder (es ++ p ∷ [])
 InOrder-push [] p h new = InOrder-cons p [] tt InOrder-nil
 InOrder-push (e ∷ es) p h new =
     let head = sorted_head byte_cmp e.0 (keys_of es) h in
@@ -404,7 +404,7 @@ pub entry_between : (es : Entries) (e : Entry) (rest : Entries) → AreEntries (
 entry_between [] e rest h = h.0
 entry_between (x ∷ es) e rest h = entry_between es e rest h.1
 
-pub before_between : (es : Entries) (e : Entry) (rest : Entries) → InOrder (es ++ e ∷ rest) → EndsBefore es e.0
+pub before_between : (es : Entries) (e : Entry) (rest : Entries) → AreSourcesInOrder (es ++ e ∷ rest) → EndsBefore es e.0
 before_between es e rest h k hk =
     let whole : Entries = es ++ e ∷ rest in
     let length_is : length whole ≡ length es + suc (length rest) = length-append es (e ∷ rest) in

@@ -16,7 +16,7 @@ use Rattle.std.specs.Prelude.{bytes_eq}
 use Rattle.block_digests.specs.Block.{block_of}
 use Rattle.coverage.specs.BlockDigests.{AreBlocks, AreDigests, Blocks, HasNumberIn, SourceBlocks, block_digest, blocks_of}
 use Rattle.coverage.specs.Intervals.{Interval, IsCanonical, holds, max_sequence}
-use Rattle.coverage.specs.Numbers.{byte_cmp, AreEntries, AreListed, Entries, InOrder, numbers_in}
+use Rattle.coverage.specs.Numbers.{byte_cmp, AreEntries, AreListed, Entries, AreSourcesInOrder, numbers_in}
 use Rattle.coverage.specs.steps.Fits.{AllFit, AreJust, HoldsIn}
 use Rattle.coverage.proofs.CompareLemmas.{absent_again}
 use Rattle.coverage.proofs.EntriesLemmas.{bytes_eq-equal, bytes_eq-apart, bytes_eq-other, is_one_source, numbers_in-head, numbers_in-tail}
@@ -88,7 +88,7 @@ digests_from_fit es ds h f = record {
 no_first : {X : Type 0} (x : X) (xs : List X) → x ∷ xs ≡ [] → ⊥
 no_first x xs h = cc h
 
-fit_rest : (es : Entries) (ds : SourceBlocks) → keys_of ds ≡ keys_of es → InOrder es → AllByRecursion AreBlocks ds
+fit_rest : (es : Entries) (ds : SourceBlocks) → keys_of ds ≡ keys_of es → AreSourcesInOrder es → AllByRecursion AreBlocks ds
     → ((source : List ℕ) (k : ℕ) → IsTrue (is_some (block_digest (blocks_of ds source) k)) ↔ HasNumberIn es source k) → AllFit es ds
 fit_rest [] [] s o b x = tt
 fit_rest [] (d ∷ ds) s o b x = no_first d.0 (keys_of ds) s

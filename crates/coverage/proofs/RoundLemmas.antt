@@ -22,7 +22,7 @@ use Rattle.serde_json.specs.Written.{outline, items_outline, members_outline, co
 use Rattle.serde_json.proofs.Numbers.{number_of-decimal}
 use Rattle.serde_json.proofs.Texts.{print-outline}
 use Rattle.coverage.specs.Intervals.{Interval, max_sequence, rises_from}
-use Rattle.coverage.specs.Numbers.{byte_cmp, Entries, AreEntries, InOrder, AreListed}
+use Rattle.coverage.specs.Numbers.{byte_cmp, Entries, AreEntries, AreSourcesInOrder, AreListed}
 use Rattle.coverage.specs.NumbersText.{interval_data, intervals_items, sources_members, numbers_data, numbers_text}
 use Rattle.coverage.specs.steps.Places.{EndsBefore}
 use Rattle.coverage.proofs.HoldsLemmas.{rises_from-parts, fits_from-true}
@@ -57,12 +57,12 @@ put_last (e ∷ es) k d v is h =
     put_greater k d e.0 (array (intervals_items e.1)) (sources_members es) (greater_from_less e.0 k (h 0 (omega arith)))
     ∙ ap (member e.0 (array (intervals_items e.1))) (put_last es k d v is (λ i hi. h (suc i) (omega arith)))
 
-pub sources_back : (done es : Entries) → AreEntries es → InOrder (done ++ es) → of_members (members_outline (sources_members es)) (sources_members done) ≡ Some (sources_members (done ++ es))
+pub sources_back : (done es : Entries) → AreEntries es → AreSourcesInOrder (done ++ es) → of_members (members_outline (sources_members es)) (sources_members done) ≡ Some (sources_members (done ++ es))
 sources_back done [] h order = ap (λ l. Some (sources_members l)) (sym (append-nil done))
 sources_back done (e ∷ es) h order =
     ap (λ o. option_and_then (λ d. of_members (members_outline (sources_members es)) (put e.0 d (sources_members done))) (option_map array o)) (intervals_back 1 e.1 h.0.3)
     ∙ ap (of_members (members_outline (sources_members es))) (put_last done e.0 (array (intervals_items e.1)) e.1 refl (before_between done e es order))
-    ∙ sources_back (done ++ e ∷ []) es h.1 (subst InOrder (sym (append_assoc done (e ∷ []) es)) order)
+    ∙ sources_back (done ++ e ∷ []) es h.1 (subst AreSourcesInOrder (sym (append_assoc done (e ∷ []) es)) order)
     ∙ ap (λ l. Some (sources_members l)) (append_assoc done (e ∷ []) es)
 
 data_back : (s : Entries) → AreListed s → of_json (outline (numbers_data s)) ≡ Some (numbers_data s)

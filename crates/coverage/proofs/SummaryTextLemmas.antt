@@ -15,7 +15,7 @@ use Rattle.coverage.specs.Refusals.{IsSummaryText}
 use Rattle.coverage.specs.Summary.{IsSummary, Sources, holds_at}
 use Rattle.coverage.specs.Summary as summary
 use Rattle.coverage.specs.SummaryShape.{version_of}
-use Rattle.coverage.specs.SummaryText.{summary_text, text_of}
+use Rattle.coverage.specs.SummaryText.{summary_text, text_of_entries}
 use Rattle.coverage.proofs.CompareLemmas.{same_summary}
 use Rattle.coverage.proofs.DigestsRoundLemmas.{IsUtf8-digests_text, read-digests_text, same_digests_data}
 use Rattle.coverage.proofs.FitLemmas.{fit_from_digests}
@@ -26,11 +26,11 @@ abbrev pub data_of : Entries → Option SourceBlocks → Data
 data_of es None = numbers_data es
 data_of es (Some ds) = digests_data es ds
 
-read_text : (es : Entries) (o : Option SourceBlocks) → AreListed es → HasDigests es o → read (text_of es o) ≡ Some (data_of es o)
+read_text : (es : Entries) (o : Option SourceBlocks) → AreListed es → HasDigests es o → read (text_of_entries es o) ≡ Some (data_of es o)
 read_text es None h d = read-numbers_text es h
 read_text es (Some ds) h d = read-digests_text es ds h (fit_from_digests es ds h d)
 
-utf8_text : (es : Entries) (o : Option SourceBlocks) → AreListed es → HasDigests es o → IsUtf8 (text_of es o)
+utf8_text : (es : Entries) (o : Option SourceBlocks) → AreListed es → HasDigests es o → IsUtf8 (text_of_entries es o)
 utf8_text es None h d = IsUtf8-numbers_text es h
 utf8_text es (Some ds) h d = IsUtf8-digests_text es ds h (fit_from_digests es ds h d)
 
@@ -100,7 +100,7 @@ other_version bytes d v is parses found one two = by_version is.0.digests (same 
     by_version (Some ds) e = two e
 
 -- a text of version 1, and of version 2
-first_by : (bytes : List ℕ) (d : Data) (es : Entries) (o : Option SourceBlocks) → bytes ≡ text_of es o → d ≡ data_of es o → version_of d ≡ Some 1 → (o ≡ None) × ((bytes ≡ numbers_text es) × (d ≡ numbers_data es))
+first_by : (bytes : List ℕ) (d : Data) (es : Entries) (o : Option SourceBlocks) → bytes ≡ text_of_entries es o → d ≡ data_of es o → version_of d ≡ Some 1 → (o ≡ None) × ((bytes ≡ numbers_text es) × (d ≡ numbers_data es))
 first_by bytes d es None is shown v = (refl, (is, shown))
 first_by bytes d es (Some ds) is shown v = absurd (some_one_two (sym v ∙ ap version_of shown))
 
@@ -110,7 +110,7 @@ first_of bytes d s h is parses v = first_by bytes d s.entries s.digests is (valu
 abbrev pub IsSecond : List ℕ → Data → Entries → Option SourceBlocks → Type 0
 IsSecond bytes d es o = (ds : SourceBlocks) × ((o ≡ Some ds) × (AreDigests es ds) × (bytes ≡ digests_text es ds) × (d ≡ digests_data es ds))
 
-second_by : (bytes : List ℕ) (d : Data) (es : Entries) (o : Option SourceBlocks) → HasDigests es o → bytes ≡ text_of es o → d ≡ data_of es o → version_of d ≡ Some 2 → IsSecond bytes d es o
+second_by : (bytes : List ℕ) (d : Data) (es : Entries) (o : Option SourceBlocks) → HasDigests es o → bytes ≡ text_of_entries es o → d ≡ data_of es o → version_of d ≡ Some 2 → IsSecond bytes d es o
 second_by bytes d es None h is shown v = absurd (some_one_two (sym (sym v ∙ ap version_of shown)))
 second_by bytes d es (Some ds) h is shown v = (ds, (refl, h, is, shown))
 

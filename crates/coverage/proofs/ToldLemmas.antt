@@ -8,14 +8,14 @@ use Rattle.block_digests.specs.Block.{block_of}
 use Rattle.block_digests.specs.Digest.{digest_in, is_one_digest}
 use Rattle.block_digests.specs.Lacking.{is_missing, is_missing_at}
 use Rattle.coverage.specs.Summary.{Sources}
-use Rattle.coverage.specs.Digests.{Blocks, DeltaIsLacking, SourceBlocks, version_of, WantedIsDelta, block_digest, blocks_of, digest_at, has_digest, is_lacking, lacks}
+use Rattle.coverage.specs.Digests.{Blocks, DeltaIsLacking, SourceBlocks, version_of, WantedIsDelta, block_digest, blocks_of, block_digest_at, has_digest, is_lacking, lacks}
 
 filter_alike : {X : Type 0} (p q : X → Bool) → ((x : X) → p x ≡ q x) → (xs : List X) → filter p xs ≡ filter q xs
 filter_alike p q f [] = refl
 filter_alike p q f (x ∷ xs) = ap₂ (λ b l. cond b (x ∷ l) l) (f x) (filter_alike p q f xs)
 
 -- of version 2 the digest itself is compared
-by_digest : (peer : Sources) (source : List ℕ) (k : ℕ) (own : Option (List ℕ)) → is_some peer.digests ≡ true → has_digest peer source k own ≡ is_one_digest (digest_at peer source k) own
+by_digest : (peer : Sources) (source : List ℕ) (k : ℕ) (own : Option (List ℕ)) → is_some peer.digests ≡ true → has_digest peer source k own ≡ is_one_digest (block_digest_at peer source k) own
 by_digest peer source k own v = go peer.digests v
   where
     go : (o : Option (List (List ℕ × Blocks))) → is_some o ≡ true

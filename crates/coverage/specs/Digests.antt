@@ -12,8 +12,8 @@ use Rattle.block_digests.specs.Number.{has_number}
 use Rattle.coverage.specs.Summary.{IsSummary, Sources, holds_at}
 
 -- the digest of a source's block, none where there is none
-abbrev pub digest_at : Sources → List ℕ → ℕ → Option (List ℕ)
-digest_at s source k = option_map_or (λ ds. block_digest (blocks_of ds source) k) s.digests None
+abbrev pub block_digest_at : Sources → List ℕ → ℕ → Option (List ℕ)
+block_digest_at s source k = option_map_or (λ ds. block_digest (blocks_of ds source) k) s.digests None
 
 -- the summary is of version 2, and has just the sources and numbers of E and the digests of its
 -- blocks
@@ -21,7 +21,7 @@ pub record Digests (E : List EventValue) (s : Sources) : Type 0 where
   pub version : version_of s ≡ 2
   pub in_form : IsSummary s
   pub numbers : (source : List ℕ) (n : ℕ) → holds_at s source n ≡ has_number E source n
-  pub blocks : (source : List ℕ) (k : ℕ) → digest_at s source k ≡ digest_in E source k
+  pub blocks : (source : List ℕ) (k : ℕ) → block_digest_at s source k ≡ digest_in E source k
 
 -- whether the peer has this digest of a block; a peer of version 1 is taken at its numbers
 abbrev pub has_digest : Sources → List ℕ → ℕ → Option (List ℕ) → Bool
@@ -36,7 +36,7 @@ lacks peer source n own =
 -- whether a site whose own summary is the second has to send events of a source and number to one
 -- that told the first
 abbrev pub is_wanted : Sources → Sources → List ℕ → ℕ → Bool
-is_wanted peer own source n = lacks peer source n (digest_at own source (block_of n))
+is_wanted peer own source n = lacks peer source n (block_digest_at own source (block_of n))
 
 -- whether the event has a number that the peer lacks, going by the digests of E
 abbrev pub is_lacking : List EventValue → Sources → EventValue → Bool

@@ -29,12 +29,12 @@ abbrev pub names_in : Entries → List (List ℕ)
 names_in es = keys_of es
 
 -- the sources ascend by bytes
-abbrev pub InOrder : Entries → Type 0
-InOrder es = IsStrictlySortedBy byte_cmp (names_in es)
+abbrev pub AreSourcesInOrder : Entries → Type 0
+AreSourcesInOrder es = IsStrictlySortedBy byte_cmp (names_in es)
 
 -- allowed sources in byte order, each with its intervals, of which there is at least one
 abbrev pub AreListed : Entries → Type 0
-AreListed es = AreEntries es × InOrder es
+AreListed es = AreEntries es × AreSourcesInOrder es
 
 -- the intervals of a source, none where it is absent
 abbrev pub numbers_in : Entries → List ℕ → List Interval

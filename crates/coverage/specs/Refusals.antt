@@ -1,5 +1,5 @@
 -- What each refusal of a text says, in the order in which they are tested.
-use Rattle.std.specs.Prelude.{◌≡◌, ◌≢◌, ◌⊎◌, ℕ, List, Some, None, true, false}
+use Rattle.std.specs.Prelude.{◌≡◌, ◌≢◌, ◌⊎◌, ℕ, List, MatchResult, Result, Some, None, true, false}
 use Rattle.serde_json.specs.Data.{Data}
 use Rattle.attributes.specs.JsonText.{IsJsonText}
 use Rattle.coverage.specs.Summary.{IsSummary, Sources}
@@ -43,13 +43,18 @@ abbrev pub IsNotCanonical : List ℕ → Type 0
 IsNotCanonical bytes = (d : Data) × (IsJsonText bytes d × IsOfShape d × IsNoSummaryText bytes)
 
 -- what is true of bytes that are refused with the fault
-abbrev pub Refuses : List ℕ → SummaryFault → Type 0
-Refuses bytes OutOfMemory = Unit {0}
-Refuses bytes NotJson = IsNoJson bytes
-Refuses bytes Shape = IsMisshapen bytes
-Refuses bytes Version = IsOtherVersion bytes
-Refuses bytes NotCanonical = IsNotCanonical bytes
+abbrev pub RefusesSummary : List ℕ → SummaryFault → Type 0
+RefusesSummary bytes OutOfMemory = Unit {0}
+RefusesSummary bytes NotJson = IsNoJson bytes
+RefusesSummary bytes Shape = IsMisshapen bytes
+RefusesSummary bytes Version = IsOtherVersion bytes
+RefusesSummary bytes NotCanonical = IsNotCanonical bytes
 
 -- the bytes are the text of some summary
 abbrev pub IsSummaryText : List ℕ → Type 0
 IsSummaryText bytes = (s : Sources) × (IsSummary s × (bytes ≡ summary_text s))
+
+-- of bytes that are the text of a summary, that one is read; only want of memory may refuse them
+abbrev pub ReadsBack : List ℕ → Result Sources SummaryFault → Type 0
+ReadsBack bytes result = (s : Sources) → IsSummary s → bytes ≡ summary_text s
+    → MatchResult result (λ r. r ≡ s) (λ e. e ≡ OutOfMemory)

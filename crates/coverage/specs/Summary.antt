@@ -1,6 +1,6 @@
 -- Which numbers of each source have been seen, and from version 2 on the digests of their blocks.
 pub use Rattle.coverage.specs.Numbers.{byte_cmp, Entry, Entries, IsEntry, AreEntries}
-pub use Rattle.coverage.specs.Numbers.{InOrder, AreListed, numbers_in, holds_in}
+pub use Rattle.coverage.specs.Numbers.{AreSourcesInOrder, AreListed, numbers_in, holds_in}
 use Rattle.std.specs.Prelude.{◌≡◌, ℕ, Bool, true, List, Option, is_some, if◌then◌else◌}
 use Rattle.std.specs.Map.{keys_of}
 use Rattle.coverage.specs.Intervals.{Interval}

@@ -13,10 +13,10 @@ ghost use Rattle.attributes.specs.Sequence.{number_of};
 ghost use Rattle.block_digests.specs.Block.{block_of};
 ghost use Rattle.block_digests.specs.Digest.{is_one_digest};
 ghost use Rattle.coverage.specs.Intervals.{IsCanonical};
-ghost use Rattle.coverage.specs.Digests.{Digests, digest_at, is_lacking, is_wanted};
+ghost use Rattle.coverage.specs.Digests.{Digests, block_digest_at, is_lacking, is_wanted};
 ghost use Rattle.coverage.specs.Summary.{Covers, IsSummary, Sources, entries_of, holds_at, numbers_of, sources_of, version_of};
 ghost use Rattle.coverage.specs.CoverText.{IsCoverText};
-ghost use Rattle.coverage.specs.Refusals.{Refuses};
+ghost use Rattle.coverage.specs.Refusals.{ReadsBack, RefusesSummary};
 ghost use Rattle.coverage.specs.SummaryShape as shape;
 ghost use Rattle.coverage.specs.SummaryText.{summary_text};
 
@@ -228,7 +228,7 @@ impl Summary {
     /// The digest of a block of a source: none in version 1, and where the summary holds no number
     /// of the block. Time logarithmic in the sources and in the blocks of the source.
     pub fn digest_of(&self, source: &str, k: u64) -> Option<&[u8; 32]>
-        ensures { option_copied result ≡ digest_at self.now source.now k }
+        ensures { option_copied result ≡ block_digest_at self.now source.now k }
     {
         match &self.digests {
             Some(digests) => digests.digest_of(source, k),
@@ -277,9 +277,8 @@ impl Summary {
     pub fn of_text(alloc: Global, bytes: &[u8]) -> Result<Summary, SummaryFault>
         ensures text { IfOk result (λ s. bytes.now ≡ summary_text s) }
         ensures summary { IfOk result (λ s. IsSummary s) }
-        ensures refused { IfErr result (Refuses bytes.now) }
-        ensures accepted { (s : Sources) → IsSummary s → bytes.now ≡ summary_text s
-            → MatchResult result (λ r. r ≡ s) (λ e. e ≡ SummaryFault.OutOfMemory) }
+        ensures refused { IfErr result (RefusesSummary bytes.now) }
+        ensures accepted { ReadsBack bytes.now result }
 
         // No bytes are refused without memory.
         ensures none { bytes.now ≡ [] → result ≡ Err SummaryFault.NotJson }
@@ -292,23 +291,22 @@ impl Summary {
             return Err(SummaryFault::Shape);
         };
         if version == 1 {
-            return Summary::of_first(alloc, value, bytes);
+            return Summary::of_version_1(alloc, value, bytes);
         }
         if version == 2 {
-            return Summary::of_second(alloc, value, bytes);
+            return Summary::of_version_2(alloc, value, bytes);
         }
         Err(SummaryFault::Version)
     }
 
     /// `of_text` for a value of version 1.
-    fn of_first(alloc: Global, value: Value, bytes: &[u8]) -> Result<Summary, SummaryFault>
+    fn of_version_1(alloc: Global, value: Value, bytes: &[u8]) -> Result<Summary, SummaryFault>
         requires json { IsJsonText bytes.now (view value) }
         requires version { shape.version_of (view value) ≡ Some 1 }
         ensures text { IfOk result (λ s. bytes.now ≡ summary_text s) }
         ensures summary { IfOk result (λ s. IsSummary s) }
-        ensures refused { IfErr result (Refuses bytes.now) }
-        ensures accepted { (s : Sources) → IsSummary s → bytes.now ≡ summary_text s
-            → MatchResult result (λ r. r ≡ s) (λ e. e ≡ SummaryFault.OutOfMemory) }
+        ensures refused { IfErr result (RefusesSummary bytes.now) }
+        ensures accepted { ReadsBack bytes.now result }
     {
         match Numbers::of_value(alloc, value, bytes) {
             Ok(numbers) => Ok(Summary {
@@ -320,14 +318,13 @@ impl Summary {
     }
 
     /// `of_text` for a value of version 2.
-    fn of_second(alloc: Global, value: Value, bytes: &[u8]) -> Result<Summary, SummaryFault>
+    fn of_version_2(alloc: Global, value: Value, bytes: &[u8]) -> Result<Summary, SummaryFault>
         requires json { IsJsonText bytes.now (view value) }
         requires version { shape.version_of (view value) ≡ Some 2 }
         ensures text { IfOk result (λ s. bytes.now ≡ summary_text s) }
         ensures summary { IfOk result (λ s. IsSummary s) }
-        ensures refused { IfErr result (Refuses bytes.now) }
-        ensures accepted { (s : Sources) → IsSummary s → bytes.now ≡ summary_text s
-            → MatchResult result (λ r. r ≡ s) (λ e. e ≡ SummaryFault.OutOfMemory) }
+        ensures refused { IfErr result (RefusesSummary bytes.now) }
+        ensures accepted { ReadsBack bytes.now result }
     {
         match Numbers::of_value_with(alloc, value, bytes) {
             Ok((numbers, digests)) => Ok(Summary {

@@ -17,7 +17,7 @@ use Rattle.databases.specs.Described.{CountsSources, Describes, SaysDatabase, Is
 use Rattle.databases.specs.Fault.{of_table}
 use Rattle.databases.specs.Held.{Holds, IsNoOrders, IsUntold}
 use Rattle.databases.specs.Service.{SaysService}
-use Rattle.database_commands.specs.steps.Told.{TellsEvents}
+use Rattle.database_commands.specs.steps.Told.{TellsInboxLine}
 use Rattle.databases.proofs.HeldLemmas.{any_holds, held_once}
 
 -- ---- the inbox
@@ -28,7 +28,7 @@ either Two db events box = inl box
 
 -- the line of a table that is there tells of the inbox
 pub tells_found : (name : List ℕ) (db : Database) (v : Version) (events : List EventValue) (text : List ℕ) → Finds db v events
-    → TellsEvents name events (version_number v) text → TellsInbox name db text
+    → TellsInboxLine name events (version_number v) text → TellsInbox name db text
 tells_found name db v events text finds (n, counts, line) =
     let box : IsAnyInbox db events = either v db events finds.table in
     let holds : Holds db events = any_holds db events box in
@@ -56,7 +56,7 @@ describes name db first rest text inbox service both = record { first = first; r
 pub describes_one : (name : List ℕ) (db : Database) (first : List ℕ) → TellsInbox name db first → has_name db.schema ≡ false → Describes name db first
 describes_one name db first inbox none = describes name db first [] first inbox (inl (none, refl)) (sym (append-nil first))
 
-pub says_events : (name : List ℕ) (events : List EventValue) (version : ℕ) (text : List ℕ) → IsToldVersion (length events) version → TellsEvents name events version text → SaysInbox name text
+pub says_events : (name : List ℕ) (events : List EventValue) (version : ℕ) (text : List ℕ) → IsToldVersion (length events) version → TellsInboxLine name events version text → SaysInbox name text
 says_events name events version text told (n, counts, line) = (length events, n, version, told, line)
 
 pub says_one : (name first : List ℕ) → SaysInbox name first → SaysDatabase name first

@@ -7,12 +7,12 @@ use Rattle.sqlite.specs.Effect.{Database}
 use Rattle.sqlite.specs.State.{State, HasCleanDisk}
 use Rattle.attributes.specs.Event.{EventValue}
 use Rattle.database_layout.specs.Layout.{has_name}
-use Rattle.outbox.specs.Call.{IsSame, IsSettled, Leaves, LeavesAsBefore, ShowsAfter}
-use Rattle.outbox.specs.Layout.{schema_in}
+use Rattle.outbox.specs.Call.{IsServiceReading, IsSettled, Leaves, LeavesAsBefore, ShowsAfter}
+use Rattle.outbox.specs.Layout.{schema_in_layout}
 use Rattle.outbox.specs.Order.{Accepted}
 use Rattle.outbox.specs.Row.{rows_of}
 use Rattle.outbox.specs.Service.{IsService}
-use Rattle.outbox.specs.Shown.{HasNoOther, StandsFor}
+use Rattle.outbox.specs.Shown.{HasNoOther, StandsForService}
 use Rattle.outbox.proofs.FoundLemmas.{has_all}
 use Rattle.relay.proofs.ReadLemmas.{same_none, same_then, service_then}
 use Rattle.databases.specs.Held.{ForAllRows, IsBehind, ShowsAllRows}
@@ -101,7 +101,7 @@ pub record IsSent (source : List ℕ) (base after : ℕ) (start now : State) (te
   pub ahead : base ≤ mark
   pub far : after ≤ mark
   pub behind : AllByRecursion (IsBehind after) events
-  pub same : IsSame start now
+  pub same : IsServiceReading start now
   pub rest : HasCleanDisk now → (commands : List Accepted) → IsService start.now source base commands
       → events ++ drop (mark - base) (rows_of source base commands) ≡ drop (after - base) (rows_of source base commands)
 
@@ -120,7 +120,7 @@ sent_none source base after mark start ahead as_far = record {
 }
 
 module _ (source : List ℕ) (base after : ℕ) (start now new : State) (text more : List ℕ) (mark : ℕ) (rows : List EventValue)
-    (sent : IsSent source base after start now text mark) (later : AllByRecursion (IsBehind mark) rows) (same : IsSame now new) (opened : HasCleanDisk new → IsTrue now.is_open)
+    (sent : IsSent source base after start now text mark) (later : AllByRecursion (IsBehind mark) rows) (same : IsServiceReading now new) (opened : HasCleanDisk new → IsTrue now.is_open)
     (shows : HasCleanDisk new → ShowsAfter source base mark max_page now.now rows) (line : more ≡ text ++ pages_text rows) where
   clean_before : HasCleanDisk new → HasCleanDisk now
   clean_before clean = omega (arith, same.clean, clean)
@@ -176,7 +176,7 @@ Page new now mark source base rows = AllByRecursion (IsBehind mark) rows × (Has
 -- the same of the rows that a page was put behind the text of, of a service that has this source and base
 pub sent_next : (source : List ℕ) (base after : ℕ) (start now new : State) (text more : List ℕ) (mark : ℕ) (s : List ℕ) (b : ℕ) (o : Option ℕ) (next : ℕ)
     → s ≡ source → b ≡ base → Some next ≡ o → IsSent source base after start now text mark
-    → IsNextPage text more mark o (Page new now mark s b) → IsSame now new → (HasCleanDisk new → IsTrue now.is_open)
+    → IsNextPage text more mark o (Page new now mark s b) → IsServiceReading now new → (HasCleanDisk new → IsTrue now.is_open)
     → IsSent source base after start new more next
 sent_next source base after start now new text more mark s b o next same_source same_base is sent page same opened =
     let here : IsNextPage text more mark (Some next) (Page new now mark source base) =
@@ -187,7 +187,7 @@ sent_next source base after start now new text more mark s b o next same_source 
 
 pub sent_last : (source : List ℕ) (base after : ℕ) (start now new : State) (text more : List ℕ) (mark : ℕ) (s : List ℕ) (b : ℕ) (o : Option ℕ)
     → s ≡ source → b ≡ base → ◌≡◌ {A = Option ℕ} None o → IsSent source base after start now text mark
-    → IsNextPage text more mark o (Page new now mark s b) → IsSame now new → (HasCleanDisk new → IsTrue now.is_open)
+    → IsNextPage text more mark o (Page new now mark s b) → IsServiceReading now new → (HasCleanDisk new → IsTrue now.is_open)
     → (events : List EventValue) × (more ≡ pages_text events) × AllByRecursion (IsBehind after) events × (HasCleanDisk new → ForAllRows source base after start.now (λ all. events ≡ all))
 sent_last source base after start now new text more mark s b o same_source same_base is sent page same opened =
     let here : IsNextPage text more mark None (Page new now mark source base) =
@@ -221,14 +221,14 @@ StaysOpen old new = HasCleanDisk new → IsTrue old.is_open → IsTrue new.is_op
 pub read_none : (a : State) → LeavesRead a a
 read_none a clean is_open layout has db may = may
 
-pub read_on : (start now new : State) → IsSame start now → StaysOpen start now → LeavesRead start now → IsSame now new → LeavesAsBefore now new → LeavesRead start new
+pub read_on : (start now new : State) → IsServiceReading start now → StaysOpen start now → LeavesRead start now → IsServiceReading now new → LeavesAsBefore now new → LeavesRead start new
 read_on start now new same still left later crash clean is_open layout has db may =
     let early : HasCleanDisk now = omega (arith, later.clean, clean) in
-    let there : now.now.schema ≡ schema_in layout = ap (λ (d : Database). d.schema) (same.same early (still early is_open) layout has).0 ∙ has in
+    let there : now.now.schema ≡ schema_in_layout layout = ap (λ (d : Database). d.schema) (same.same early (still early is_open) layout has).0 ∙ has in
     left early is_open layout has db (crash clean layout there db may)
 
 -- of one that was taken over
-pub read_leaves : (old mid new : State) (source : List ℕ) (base last : ℕ) → Leaves old mid → (HasCleanDisk mid → IsTrue mid.is_open) → StandsFor mid source base last → IsSame mid new → LeavesRead mid new → Leaves old new
+pub read_leaves : (old mid new : State) (source : List ℕ) (base last : ℕ) → Leaves old mid → (HasCleanDisk mid → IsTrue mid.is_open) → StandsForService mid source base last → IsServiceReading mid new → LeavesRead mid new → Leaves old new
 read_leaves old mid new source base last left opened stands later crash =
     let early : HasCleanDisk new → HasCleanDisk mid = λ clean. omega (arith, later.clean, clean) in
     record {
@@ -245,7 +245,7 @@ read_leaves old mid new source base last left opened stands later crash =
 
 -- a crash leaves just that, as where it was taken over
 pub read_settled : (mid new : State) (source : List ℕ) (base last : ℕ) → HasCleanDisk new → (HasCleanDisk mid → IsTrue mid.is_open) → (HasCleanDisk mid → IsSettled mid)
-    → StandsFor mid source base last → IsSame mid new → LeavesRead mid new → IsSettled new
+    → StandsForService mid source base last → IsServiceReading mid new → LeavesRead mid new → IsSettled new
 read_settled mid new source base last clean opened settled stands later crash still db may =
     let early : HasCleanDisk mid = omega (arith, later.clean, clean) in
     let there = opened early in

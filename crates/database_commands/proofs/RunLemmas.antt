@@ -6,11 +6,11 @@ use Rattle.databases.specs.declared.fault.CommandFault.{CommandFault}
 use Rattle.databases.specs.declared.fault.CommandFault.TheVariants as command
 use Rattle.databases.specs.declared.trouble.Trouble.{Trouble}
 use Rattle.databases.specs.declared.trouble.Trouble.TheVariants as trouble
-use Rattle.run_command.specs.Fault.{IsNamedFault, IsOfDatabase, IsOfNamed, IsRunFault}
+use Rattle.run_command.specs.Fault.{IsNamedFault, IsDatabaseFaultOfRun, IsOfNamed, IsRunFault}
 use Rattle.run_command.specs.declared.fault.RunFault.{RunFault}
 use Rattle.run_command.specs.declared.fault.RunFault.TheVariants as run
 
-of_database : (why : CommandFault) → IsOfDatabase why → IsOfNamed why
+of_database : (why : CommandFault) → IsDatabaseFaultOfRun why → IsOfNamed why
 of_database command.OutOfMemory h = tt
 of_database command.Store h = tt
 of_database command.Foreign h = tt

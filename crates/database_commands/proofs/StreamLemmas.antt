@@ -8,13 +8,13 @@ use Rattle.sqlite.specs.Effect.{Database}
 use Rattle.sqlite.specs.State.{State, HasCleanDisk}
 use Rattle.sqlite_trees.specs.Tree.{Trees}
 use Rattle.attributes.specs.Event.{EventValue}
-use Rattle.inbox_table.specs.Beside.{KeepsService}
+use Rattle.inbox_table.specs.Beside.{KeepsServiceBeside}
 use Rattle.inbox_table.specs.Calls.{IsAsItWas, IsSettled, has_both}
 use Rattle.inbox_table.specs.Rows.{IsInbox}
 use Rattle.inbox_table.specs.declared.fault.TableFault.{TableFault}
 use Rattle.inbox_table.specs.declared.fault.TableFault.TheVariants.{Foreign}
 use Rattle.line_intake.specs.Acknowledged.{AreTold, TellsAll, TellsPart, TellsSome, TellsUntil}
-use Rattle.line_intake.specs.Follow.{IsFollowed, KeepsTurns, LeavesTurns, Place, StopsBehind, StopsStream, Turn}
+use Rattle.line_intake.specs.Follow.{IsFollowed, KeepsTurns, LeavesTurns, StreamPlace, StopsBehind, StopsStream, Turn}
 use Rattle.line_intake.specs.Judged.{TakesLines}
 use Rattle.line_intake.specs.Lines.{TakesLine}
 use Rattle.line_intake.specs.declared.answer.Told.{Told}
@@ -47,7 +47,7 @@ on_outcome (Err f) outcome P Q is to p = subst (λ r. OnOk r Q) (sym is) tt
 holds_turns : (old mid new : Database) (turns : List Turn) → ((held : List EventValue) → Holds old held → IsInbox mid held) → KeepsTurns turns mid new → HoldsTurns turns old new
 holds_turns old mid new turns box kept held holds = kept held (box held holds)
 
-pub stream_followed : (ended : Result ℕ FollowFault) (outcome : Result ℕ StreamFault) (start : Place) (out : Option (List ℕ)) (old : Database) (mid last conn : State) → conn ≡ last → Outcome ended outcome
+pub stream_followed : (ended : Result ℕ FollowFault) (outcome : Result ℕ StreamFault) (start : StreamPlace) (out : Option (List ℕ)) (old : Database) (mid last conn : State) → conn ≡ last → Outcome ended outcome
     → (HasCleanDisk mid → (held : List EventValue) → Holds old held → IsInbox mid.now held) → (HasCleanDisk last → HasCleanDisk mid) → IfOk ended (λ n. IsFollowed start out n (λ turns. HasCleanDisk last → KeepsTurns turns mid.now last.now))
     → IfOk outcome (λ n. IsFollowed start out n (λ turns. HasCleanDisk conn → HoldsTurns turns old conn.now))
 stream_followed ended outcome start out old mid last conn same is box cleaner followed =
@@ -71,7 +71,7 @@ leaves_to : (turns : List Turn) (P Q : Trees → Type 0) (db : Database) (trees 
 leaves_to [] P Q db trees to left = to left
 leaves_to (t ∷ turns) P Q db trees to left = left
 
-stops_to : (why : FollowFault) (last : Place) (turns : List Turn) (P Q : Trees → Type 0) (db : Database) (new : State) (out : Option (List ℕ)) → (HasCleanDisk new → (trees : Trees) → P trees → Q trees)
+stops_to : (why : FollowFault) (last : StreamPlace) (turns : List Turn) (P Q : Trees → Type 0) (db : Database) (new : State) (out : Option (List ℕ)) → (HasCleanDisk new → (trees : Trees) → P trees → Q trees)
     → StopsBehind why last (LeavesTurns turns P db) db new out → StopsBehind why last (LeavesTurns turns Q db) db new out
 stops_to (Input why) last turns P Q db new out to (same, written, left) = (same, written, λ clean trees may. leaves_to turns P Q db trees (to clean trees) (left clean trees may))
 stops_to (Table why) last turns P Q db new out to (lines, rest, tells, lists, gathered, stop, left) =
@@ -79,7 +79,7 @@ stops_to (Table why) last turns P Q db new out to (lines, rest, tells, lists, ga
 stops_to Unwritten last turns P Q db new out to (lines, rest, tells, lists, gathered, stop, left) =
     (lines, rest, tells, lists, gathered, stop, λ clean trees may. elim (left clean trees may) [ inl l ↦ inl (leaves_to turns P Q db trees (to clean trees) l) | inr took ↦ inr took ])
 
-pub stream_stops : (ended : Result ℕ FollowFault) (outcome : Result ℕ StreamFault) (start : Place) (left left' out : Option (List ℕ)) (before mid last conn : State) → conn ≡ last → Outcome ended outcome
+pub stream_stops : (ended : Result ℕ FollowFault) (outcome : Result ℕ StreamFault) (start : StreamPlace) (left left' out : Option (List ℕ)) (before mid last conn : State) → conn ≡ last → Outcome ended outcome
     → (HasCleanDisk mid → (held : List EventValue) → Holds before.now held → IsInbox mid.now held) → (HasCleanDisk last → HasCleanDisk mid)
     → (HasCleanDisk mid → (trees : Trees) → Began mid trees → LeavesUnturned before trees)
     → IfErr ended (λ f. StopsStream start (Began mid) out last f (λ turns now. HasCleanDisk last → KeepsTurns turns mid.now now))
@@ -147,7 +147,7 @@ unread_or_stops left left' out out' old new f (inr stops) = inr stops
 
 -- a service stays beside the table, as it stayed when that was opened
 pub stream_beside : (old : Database) (mid last conn : State) → conn ≡ last → (HasCleanDisk mid → KeepsRows old mid.now) → (HasCleanDisk last → HasCleanDisk mid)
-    → (HasCleanDisk last → IsTrue last.is_open → KeepsService mid.now last.now) → HasCleanDisk conn → IsTrue conn.is_open → KeepsRows old conn.now
+    → (HasCleanDisk last → IsTrue last.is_open → KeepsServiceBeside mid.now last.now) → HasCleanDisk conn → IsTrue conn.is_open → KeepsRows old conn.now
 stream_beside old mid last conn same opened cleaner kept =
     subst (λ (s : State). HasCleanDisk s → IsTrue s.is_open → KeepsRows old s.now) (sym same)
     (λ clean still. service_over old mid.now last.now (opened (cleaner clean)) (service_kept mid.now last.now (kept clean still)))

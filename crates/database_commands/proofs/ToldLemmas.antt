@@ -5,14 +5,14 @@ use Rattle.serde_json.specs.Written.{compact_text}
 use Rattle.sqlite.specs.Effect.{Database}
 use Rattle.attributes.specs.Sequence.{max_sequence}
 use Rattle.outbox.specs.Service.{IsService}
-use Rattle.outbox.specs.Shown.{CountsOrders, CountsRows, HasNoOther, Stands}
+use Rattle.outbox.specs.Shown.{CountsOrders, CountsRows, HasNoOther, StandsWithRows}
 use Rattle.database_layout.specs.Layout.{has_name}
 use Rattle.outbox.specs.declared.fault.OutboxFault.{OutboxFault}
 use Rattle.outbox.specs.declared.fault.OutboxFault.TheVariants as outbox
 use Rattle.databases.specs.declared.fault.CommandFault.TheVariants as command
 use Rattle.databases.specs.Fault.{of_outbox}
 use Rattle.databases.specs.Print.{service_data, service_line}
-use Rattle.databases.specs.Service.{IsTold, TellsOrFounds, TellsService}
+use Rattle.databases.specs.Service.{IsServiceTold, TellsOrFounds, TellsService}
 use Rattle.database_commands.specs.steps.Told.{TellsEach}
 use Rattle.database_commands.proofs.RowLemmas.{no_service}
 
@@ -32,7 +32,7 @@ told_each old mid source base orders rows text only is line all_orders all_rows 
     let told : TellsService source base commands text = line ∙ ap₂ (service_line source base) (all_orders commands here) (all_rows commands here) in
     subst (λ x. TellsService x b commands text) same.0 (subst (λ n. TellsService source n commands text) same.1 told)
 
-pub told_is : (old mid : Database) (source : List ℕ) (base last : ℕ) (text : List ℕ) → mid ≡ old → Stands mid source base last → TellsEach old text → IsTold old text
+pub told_is : (old mid : Database) (source : List ℕ) (base last : ℕ) (text : List ℕ) → mid ≡ old → StandsWithRows mid source base last → TellsEach old text → IsServiceTold old text
 told_is old mid source base last text is stands each =
     let box : IsService old source base stands.commands = subst (λ db. IsService db source base stands.commands) is stands.table in
     record { source = source; base = base; commands = stands.commands; service = box; line = each source base stands.commands box }
@@ -41,8 +41,8 @@ pub there_tells : (given : List ℕ) (start : ℕ) (old new : Database) (text : 
 there_tells given start old new text there is each s b commands (inl box) = (subst (λ db. IsService db s b commands) (sym is) box, each s b commands box)
 there_tells given start old new text there is each s b commands (inr (lacks, _, _, _)) = absurd (let e : ◌≡◌ {A = Bool} true false = sym there ∙ lacks in cc)
 
-pub there_told : (old new : Database) (text : List ℕ) → new ≡ old → IsTold old text → IsTold new text
-there_told old new text is told = subst (λ db. IsTold db text) (sym is) told
+pub there_told : (old new : Database) (text : List ℕ) → new ≡ old → IsServiceTold old text → IsServiceTold new text
+there_told old new text is told = subst (λ db. IsServiceTold db text) (sym is) told
 
 -- ---- a service that is made
 
@@ -53,7 +53,7 @@ made_tells given start old new text lacks made line s b commands (inr (_, source
   subst (λ x. TellsService x b commands text) (sym source_is) (subst (λ n. TellsService given n commands text) (sym base_is) (subst (λ l. TellsService given start l text) (sym none) line)),
 )
 
-pub made_told : (given : List ℕ) (start : ℕ) (new : Database) (text : List ℕ) → IsService new given start [] → text ≡ service_line given start 0 0 → IsTold new text
+pub made_told : (given : List ℕ) (start : ℕ) (new : Database) (text : List ℕ) → IsService new given start [] → text ≡ service_line given start 0 0 → IsServiceTold new text
 made_told given start new text made line = record { source = given; base = start; commands = []; service = made; line = line }
 
 pub base_high : (o : Option ℕ) → IfSome o (λ n. n ≤ max_sequence) → unwrap_or o 0 ≤ max_sequence

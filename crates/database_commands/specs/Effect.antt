@@ -101,7 +101,7 @@ pub record ServiceEffect (is_named : Bool) (given : List ℕ) (start : Option �
     (outcome : Result (List ℕ) CommandFault) (old new : State) : Type 0 where
   pub told : HasCleanDisk new
       → IfOk outcome (TellsOrFounds given (unwrap_or start 0) old.now new.now)
-  pub stands : HasCleanDisk new → IfOk outcome (service.IsTold new.now)
+  pub stands : HasCleanDisk new → IfOk outcome (service.IsServiceTold new.now)
   pub stays_open : HasCleanDisk new → OnOk outcome (IsTrue new.is_open)
   -- where there was none, just that one was made, and a crash leaves it
   pub made : has_name old.now.schema ≡ false → HasCleanDisk new

@@ -14,7 +14,7 @@ use Rattle.sqlite.specs.Files.{FailsToClose, FailsToOpenFiles, IsCleanLeft, IsCl
 use Rattle.sqlite.specs.Start.{FindsIn}
 use Rattle.sqlite.specs.declared.error.Error.{Error}
 use Rattle.sqlite.specs.declared.file.Leftover.{Leftover}
-use Rattle.databases.specs.Trouble.{IsOfSystem, fault_of, of_error}
+use Rattle.databases.specs.Trouble.{IsSystemTrouble, fault_of, of_error}
 use Rattle.database_commands.specs.declared.command.CommandEnd.{CommandEnd}
 use Rattle.databases.specs.declared.fault.CommandFault.{CommandFault}
 use Rattle.databases.specs.declared.trouble.Trouble.{Trouble}
@@ -64,7 +64,7 @@ module _ (D : Type 0) (g : disk.Ghosts D) where
   -- database was asked, or the database did
   abbrev pub IsUnopened : Image → Trouble → Type 0
   IsUnopened image why =
-      IsOfSystem why ⊎ ((e : Error) × (why ≡ of_error e) × LeavesImage image e)
+      IsSystemTrouble why ⊎ ((e : Error) × (why ≡ of_error e) × LeavesImage image e)
 
   -- so it is for this fault
   abbrev pub IsUnopenedFor : Image → CommandFault → Type 0

@@ -10,7 +10,7 @@ ghost use Rattle.outbox.specs.Call.{Leaves};
 ghost use Rattle.outbox.specs.Shown.{IsNoService};
 ghost use Rattle.databases.specs.Described.{CountsSources, Describes, SaysDatabase, SaysInbox, TellsInbox, version_number};
 ghost use Rattle.databases.specs.Held.{IsUntold};
-ghost use Rattle.database_commands.specs.steps.Told.{TellsEvents};
+ghost use Rattle.database_commands.specs.steps.Told.{TellsInboxLine};
 ghost use Rattle.databases.specs.declared.fault.CommandFault.TheVariants as command;
 
 use crate::command::CommandEnd;
@@ -128,7 +128,7 @@ fn version_number(version: Version) -> u64
 
 /// The line of an inbox of that version with these events, each of which stands there once.
 fn events_line(alloc: Global, name: &str, version: u64, events: Batch) -> Result<Text, CommandFault>
-    ensures line { IfOk result (TellsEvents name.now events version) }
+    ensures line { IfOk result (TellsInboxLine name.now events version) }
     ensures fault { IfErr result (λ f. f ≡ command.OutOfMemory) }
 {
     let count = events.len();

@@ -3,7 +3,7 @@ ghost use Rattle.std.specs.Prelude.{◌≡◌, ◌≤◌, IfErr, IfOk, IfSome, I
 ghost use Rattle.sqlite_wal.specs.Files.{image_at};
 ghost use Rattle.databases.specs.Name.{IsNoFile};
 ghost use Rattle.database_commands.specs.OfFile.{Closes, IsOver, RefusesFiles, RefusesFilesFor};
-ghost use Rattle.databases.specs.Trouble.{IsOfOpening, IsOfSystem};
+ghost use Rattle.databases.specs.Trouble.{IsOfOpening, IsSystemTrouble};
 ghost use Rattle.databases.specs.declared.fault.CommandFault.TheVariants as CommandFault;
 ghost use Rattle.databases.specs.declared.trouble.Trouble.TheVariants as trouble;
 
@@ -85,7 +85,7 @@ pub(crate) fn found<T: Start>(
 pub(crate) fn is_there(rt: &HostRuntime, name: &str) -> Result<(), Trouble>
     ensures none { IsNoFile name.now → IsErrOf result trouble.NoFile }
     ensures name { IfErr result (λ why. why ≡ trouble.NoFile → IsNoFile name.now) }
-    ensures refused { IfErr result IsOfSystem }
+    ensures refused { IfErr result IsSystemTrouble }
 {
     if is_no_file(name) {
         return Err(Trouble::NoFile);
@@ -176,7 +176,7 @@ fn pages_for(length: u64, growth: u64, most: u64) -> u64
 /// The most pages that are kept in memory.
 fn most_pages(rt: &HostRuntime) -> Result<u64, Trouble>
     ensures pages { IfOk result (λ n. 200 ≤ n) }
-    ensures refused { IfErr result IsOfSystem }
+    ensures refused { IfErr result IsSystemTrouble }
     ensures opening { IfErr result IsOfOpening }
 {
     match env::var(rt, CACHE) {
@@ -208,7 +208,7 @@ fn pages_of(mib: &str) -> Option<u64>
 /// How a database is opened, with a seed drawn at random.
 fn options(rt: &HostRuntime, pages: u64) -> Result<Options, Trouble>
     ensures memory { IfOk result (λ o. (o.cache_pages ≡ pages) × (pages ≤ o.spill_pages)) }
-    ensures refused { IfErr result IsOfSystem }
+    ensures refused { IfErr result IsSystemTrouble }
     ensures opening { IfErr result IsOfOpening }
 {
     let state = match RandomState::new(rt) {

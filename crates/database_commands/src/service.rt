@@ -3,13 +3,12 @@ ghost use Rattle.std.specs.Prelude.{◌≡◌, ◌≢◌, ◌<◌, ◌≤◌, �
 ghost use Rattle.std.specs.List.{AllByRecursion};
 ghost use Rattle.sqlite.specs.Held.{state};
 ghost use Rattle.sqlite.specs.State.{HasCleanDisk};
-ghost use Rattle.attributes.specs.Character.{is_filled};
 ghost use Rattle.attributes.specs.Event.{EventValue};
 ghost use Rattle.attributes.specs.Sequence.{max_sequence};
-ghost use Rattle.outbox.specs.Call.{Accepts, IsAsItWas, IsSame, Leaves, LeavesAsBefore, Refuses, ShowsAfter};
+ghost use Rattle.outbox.specs.Call.{Accepts, IsAsItWas, IsServiceReading, Leaves, LeavesAsBefore, RefusesCommand, ShowsAfter};
 ghost use Rattle.outbox.specs.Opening.{LeavesOrMakes};
 ghost use Rattle.outbox.specs.Row.{row_event};
-ghost use Rattle.outbox.specs.Shown.{Stands};
+ghost use Rattle.outbox.specs.Shown.{StandsWithRows, IsSource};
 ghost use Rattle.database_layout.specs.Layout.{has_name};
 ghost use Rattle.outbox.specs.declared.fault.OutboxFault.{OutboxFault};
 ghost use Rattle.outbox.specs.declared.fault.OutboxFault.TheVariants.{OutOfMemory, Store};
@@ -17,13 +16,14 @@ ghost use Rattle.relay.specs.Relay.{ForNextRows};
 ghost use Rattle.databases.specs.declared.fault.CommandFault.TheVariants as command;
 ghost use Rattle.databases.specs.Fault.{of_outbox};
 ghost use Rattle.database_commands.specs.Effect.{OrderEffect};
-ghost use Rattle.databases.specs.Held.{ForAllRows, HasAnother, IsBehind, IsNoOrders, IsNoRows, IsServed, IsUntold, KeepsEvents, KeepsService, SaysAllRows, SaysOrder, SaysRows, ShowsAllRows, ShowsRows};
+ghost use Rattle.databases.specs.Held.{ForAllRows, HasAnother, IsBehind, IsNoOrders, IsNoRows, IsServiceThere, IsUntold, KeepsEvents, KeepsService, SaysAllRows, SaysOrder, SaysRows, ShowsAllRows, ShowsRows};
 ghost use Rattle.databases.specs.Pages.{max_page, pages_text};
 ghost use Rattle.databases.specs.Print.{batch_line, event_line};
 ghost use Rattle.databases.specs.Service.{LeavesOrFounds};
 ghost use Rattle.database_commands.specs.steps.Sent.{IsNextPage};
 ghost use Rattle.database_commands.specs.steps.Served.{LeavesOrAccepts, LeavesRead};
-ghost use Rattle.databases.specs.Done.{BesideIfDone, OpenIfDone, SettledIfDone};
+ghost use Rattle.databases.specs.Done.{BesideIfDone, OpenIfDone, SettledIfDone, ShowsRowsIfDone};
+ghost use Rattle.outbox.specs.Order.{IsOrder, IsShortTime};
 
 use crate::command::CommandEnd;
 use attributes::{Batch, Moment, Sequenced, Text};
@@ -63,9 +63,9 @@ fn service_of<S: Alter + Drop>(
     source: &Text,
     is_named: bool,
 ) -> Result<Service<S>, NotServed<S>>
-    requires { (is_filled source.now ≡ true) × (length source.now ≤ 1024) }
+    requires { IsSource source.now }
     ensures served { IfOk result (λ s. HasCleanDisk (state S.Store s.conn)
-        → IsServed source.now (state S.Store conn).now s.source s.base
+        → IsServiceThere source.now (state S.Store conn).now s.source s.base
         (state S.Store s.conn).now) }
     ensures named { IsTrue is_named → IfOk result (λ s. s.source ≡ source.now) }
     ensures back { IfErr result (λ e. IsAsItWas (state S.Store conn) (state S.Store e.conn)) }
@@ -75,7 +75,7 @@ fn service_of<S: Alter + Drop>(
     ensures beside { IfOk result (λ s. HasCleanDisk (state S.Store s.conn)
         → KeepsEvents (state S.Store conn).now (state S.Store s.conn).now) }
     ensures stands { IfOk result (λ s. HasCleanDisk (state S.Store s.conn)
-        → Stands (state S.Store s.conn).now s.source s.base s.last) }
+        → StandsWithRows (state S.Store s.conn).now s.source s.base s.last) }
     ensures stays_open { IfOk result (λ s. HasCleanDisk (state S.Store s.conn)
         → IsTrue (state S.Store s.conn).is_open) }
     ensures clean { IfOk result (λ s. HasCleanDisk (state S.Store s.conn)
@@ -114,8 +114,8 @@ fn command<S: Alter>(
     order: u64,
     at: &Moment,
 ) -> Result<Sequenced, OutboxFault>
-    requires order { (1 ≤ order) × (order ≤ max_sequence) }
-    requires short { length at.now ≤ 64 }
+    requires order { IsOrder order }
+    requires short { IsShortTime at.now }
     ensures accepted { HasCleanDisk (state S.Store service.new.conn) → IfOk result
         (Accepts service.old.source service.old.base
         (record { status = status; order = order; at = at.now })
@@ -123,7 +123,7 @@ fn command<S: Alter>(
     ensures refused { HasCleanDisk (state S.Store service.new.conn)
         → IsTrue (state S.Store service.new.conn).is_open
         → IfErr result (λ f. f ≢ OutOfMemory → f ≢ Store
-        → Refuses service.old.source service.old.base status order
+        → RefusesCommand service.old.source service.old.base status order
         (state S.Store service.old.conn).now f) }
     ensures next { IfOk result (λ e. (service.old.last < max_sequence)
         × (e ≡ row_event service.old.source (suc service.old.last)
@@ -158,9 +158,9 @@ pub fn order<S: Alter + Drop>(
     order: u64,
     at: &Moment,
 ) -> CommandEnd<S, Text>
-    requires source { (is_filled source.now ≡ true) × (length source.now ≤ 1024) }
-    requires order { (1 ≤ order) × (order ≤ max_sequence) }
-    requires short { length at.now ≤ 64 }
+    requires source { IsSource source.now }
+    requires order { IsOrder order }
+    requires short { IsShortTime at.now }
     ensures did { OrderEffect is_source_named source.now
         (record { status = status; order = order; at = at.now }) result.outcome
         (state S.Store conn) (state S.Store result.conn) }
@@ -191,8 +191,8 @@ fn command_line<S: Alter>(
     order: u64,
     at: &Moment,
 ) -> Result<Text, CommandFault>
-    requires order { (1 ≤ order) × (order ≤ max_sequence) }
-    requires short { length at.now ≤ 64 }
+    requires order { IsOrder order }
+    requires short { IsShortTime at.now }
     ensures accepted { HasCleanDisk (state S.Store service.new.conn) → IfOk result (λ text.
         (e : EventValue) × (text ≡ event_line e)
         × Accepts service.old.source service.old.base
@@ -201,7 +201,7 @@ fn command_line<S: Alter>(
     ensures refused { HasCleanDisk (state S.Store service.new.conn)
         → IsTrue (state S.Store service.new.conn).is_open → IfErr result (λ f.
         f ≢ command.OutOfMemory → f ≢ command.Store → (why : OutboxFault) × (f ≡ of_outbox why)
-        × Refuses service.old.source service.old.base status order
+        × RefusesCommand service.old.source service.old.base status order
         (state S.Store service.old.conn).now why) }
     ensures same { OnErr result
         (IsAsItWas (state S.Store service.old.conn) (state S.Store service.new.conn)) }
@@ -266,7 +266,7 @@ pub fn relay<S: Alter + Drop>(
     source: &Text,
     after: u64,
 ) -> CommandEnd<S, Text>
-    requires { (is_filled source.now ≡ true) × (length source.now ≤ 1024) }
+    requires { IsSource source.now }
     ensures shown { HasCleanDisk (state S.Store result.conn) → IfOk result.outcome
         (ShowsRows source.now after (state S.Store conn).now) }
     ensures kept { HasCleanDisk (state S.Store result.conn)
@@ -307,7 +307,7 @@ fn rows_line<S: Alter>(
     ensures rows { HasCleanDisk (state S.Store service.new.conn) → IfOk result (λ text.
         ForNextRows service.old.source service.old.base after
         (state S.Store service.old.conn).now (λ rows. text ≡ batch_line rows)) }
-    ensures same { IsSame (state S.Store service.old.conn) (state S.Store service.new.conn) }
+    ensures same { IsServiceReading (state S.Store service.old.conn) (state S.Store service.new.conn) }
     ensures stays_open { OpenIfDone (state S.Store service.new.conn) result }
     ensures settled { SettledIfDone (state S.Store service.new.conn) result }
     ensures crash { LeavesAsBefore (state S.Store service.old.conn)
@@ -349,8 +349,7 @@ pub fn relay_all<S: Alter + Drop>(
     conn: Connection<S>,
     after: u64,
 ) -> CommandEnd<S, Text>
-    ensures shown { HasCleanDisk (state S.Store result.conn) → IfOk result.outcome
-        (ShowsAllRows after (state S.Store conn).now) }
+    ensures shown { ShowsRowsIfDone after (state S.Store conn) (state S.Store result.conn) result.outcome }
     ensures left { Leaves (state S.Store conn) (state S.Store result.conn) }
     ensures without { has_name (state S.Store conn).now.schema ≡ false
         → ((state S.Store result.conn).now ≡ (state S.Store conn).now)
@@ -377,8 +376,7 @@ fn found_rows<S: Alter + Drop>(
     conn: Connection<S>,
     after: u64,
 ) -> CommandEnd<S, Text>
-    ensures shown { HasCleanDisk (state S.Store result.conn) → IfOk result.outcome
-        (ShowsAllRows after (state S.Store conn).now) }
+    ensures shown { ShowsRowsIfDone after (state S.Store conn) (state S.Store result.conn) result.outcome }
     ensures left { Leaves (state S.Store conn) (state S.Store result.conn) }
     ensures stays_open { OpenIfDone (state S.Store result.conn) result.outcome }
     ensures settled { SettledIfDone (state S.Store result.conn) result.outcome }
@@ -417,7 +415,7 @@ fn row_lines<S: Alter>(
         × AllByRecursion (IsBehind after) events
         × (HasCleanDisk (state S.Store service.new.conn) → ForAllRows service.old.source
         service.old.base after (state S.Store service.old.conn).now (λ rows. events ≡ rows))) }
-    ensures same { IsSame (state S.Store service.old.conn) (state S.Store service.new.conn) }
+    ensures same { IsServiceReading (state S.Store service.old.conn) (state S.Store service.new.conn) }
     ensures crash { LeavesRead (state S.Store service.old.conn) (state S.Store service.new.conn) }
     ensures stays_open { OpenIfDone (state S.Store service.new.conn) result }
     ensures fault { IfErr result IsUntold }
@@ -451,7 +449,7 @@ fn next_page<S: Alter>(
     ensures stays_open { OpenIfDone (state S.Store service.new.conn) result }
     ensures kept { (service.new.source ≡ service.old.source)
         × (service.new.base ≡ service.old.base) }
-    ensures same { IsSame (state S.Store service.old.conn) (state S.Store service.new.conn) }
+    ensures same { IsServiceReading (state S.Store service.old.conn) (state S.Store service.new.conn) }
     ensures crash { LeavesAsBefore (state S.Store service.old.conn)
         (state S.Store service.new.conn) }
     ensures fault { IfErr result IsUntold }

@@ -1,17 +1,16 @@
 //! The service of a database: made where there is none, and told.
-ghost use Rattle.std.specs.Prelude.{◌≡◌, ◌≢◌, ◌≤◌, ◌⊎◌, length, false, true, unwrap_or, IfErr, IfOk, IfSome, IsFalse, IsTrue, OnErr, OnOk};
+ghost use Rattle.std.specs.Prelude.{◌≡◌, ◌≢◌, ◌≤◌, ◌⊎◌, false, unwrap_or, IfErr, IfOk, IfSome, IsFalse, IsTrue, OnErr, OnOk};
 ghost use Rattle.sqlite.specs.Held.{state};
 ghost use Rattle.sqlite.specs.State.{HasCleanDisk};
-ghost use Rattle.attributes.specs.Character.{is_filled};
 ghost use Rattle.attributes.specs.Sequence.{max_sequence};
 ghost use Rattle.database_layout.specs.Layout.{has_name};
 ghost use Rattle.outbox.specs.Call.{IsAsItWas, IsFounded, Leaves};
-ghost use Rattle.outbox.specs.Shown.{IsNoService};
+ghost use Rattle.outbox.specs.Shown.{IsNoService, IsSource};
 ghost use Rattle.databases.specs.declared.fault.CommandFault.TheVariants as command;
 ghost use Rattle.database_commands.specs.Effect.{ServiceEffect};
 ghost use Rattle.databases.specs.Held.{HasAnother, IsNoOrders};
 ghost use Rattle.databases.specs.Print.{service_line};
-ghost use Rattle.databases.specs.Service.{HasOtherBase, IsOtherBase, IsTold, LeavesOrFounds, SaysService};
+ghost use Rattle.databases.specs.Service.{HasOtherBase, IsOtherBase, IsServiceTold, LeavesOrFounds, SaysService};
 ghost use Rattle.database_commands.specs.steps.Told.{IsLineOf, TellsEach};
 ghost use Rattle.databases.specs.Done.{OpenIfDone, SettledIfDone};
 
@@ -39,7 +38,7 @@ pub fn tell_service<S: Alter + Drop>(
     is_source_named: bool,
     base: Option<u64>,
 ) -> CommandEnd<S, Text>
-    requires source { (is_filled source.now ≡ true) × (length source.now ≤ 1024) }
+    requires source { IsSource source.now }
     requires base { IfSome base (λ n. n ≤ max_sequence) }
     ensures did { ServiceEffect is_source_named source.now base result.outcome
         (state S.Store conn) (state S.Store result.conn) }
@@ -58,7 +57,7 @@ fn made<S: Alter + Drop>(
     source: &Text,
     base: u64,
 ) -> CommandEnd<S, Text>
-    requires source { (is_filled source.now ≡ true) × (length source.now ≤ 1024) }
+    requires source { IsSource source.now }
     requires base { base ≤ max_sequence }
     requires none { has_name (state S.Store conn).now.schema ≡ false }
     ensures made { HasCleanDisk (state S.Store result.conn) → OnOk result.outcome
@@ -113,7 +112,7 @@ pub(crate) fn told<S: Alter + Drop>(
     ensures left { Leaves (state S.Store conn) (state S.Store result.conn) }
     ensures told { HasCleanDisk (state S.Store result.conn) → IfOk result.outcome
         (λ text. IsTrue (state S.Store result.conn).is_open
-        × TellsEach (state S.Store conn).now text × IsTold (state S.Store conn).now text) }
+        × TellsEach (state S.Store conn).now text × IsServiceTold (state S.Store conn).now text) }
     ensures another { IfErr result.outcome (λ f. f ≡ command.AnotherSource → IsTrue is_named
         × (HasCleanDisk (state S.Store result.conn)
         → HasAnother source.now (state S.Store conn).now)) }

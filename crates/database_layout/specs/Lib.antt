@@ -4,4 +4,5 @@ pub mod Layout
 pub mod Making
 pub mod Beside
 pub mod Law
+pub mod States
 pub mod steps

@@ -2,11 +2,12 @@
 
 ghost use Rattle.std.specs.Prelude.{◌≡◌, [], ◌∷◌, IsTrue, OnOk, OnErr};
 ghost use Rattle.sqlite.specs.Held.{state};
-ghost use Rattle.sqlite.specs.State.{ExecutesInside, HasCleanDisk, KeepsCommit, Survives};
+ghost use Rattle.sqlite.specs.State.{ExecutesInside, HasCleanDisk, Survives};
 ghost use Rattle.database_layout.specs.Layout.{GainsInbox2, GainsService, HasInbox, inbox_tree, schema_in};
 ghost use Rattle.database_layout.specs.Making.{Changes, Makes, both_in, service_trees, upgraded};
 ghost use Rattle.database_layout.specs.Texts.{create_inbox2, create_orders, create_outbox, create_service, drop_inbox};
 ghost use Rattle.database_layout.specs.declared.layout.Layout.{Layout};
+ghost use Rattle.database_layout.specs.States.{KeepsCommitIfRefused};
 
 use sqlite::{Alter, Error, Transaction};
 
@@ -97,9 +98,8 @@ pub fn make_service<S: Alter>(tx: &mut Transaction<'_, S>) -> Result<(), Error>
         → (state S.Store tx.old.conn.now).now.schema ≡ schema_in before
         → Makes (schema_in before) (schema_in after) (service_trees after)
         (state S.Store tx.old.conn.now) (state S.Store tx.new.conn.now)) }
-    ensures failed { HasCleanDisk (state S.Store tx.new.conn.now)
-        → IsTrue (state S.Store tx.old.conn.now).in_transaction → OnErr result (KeepsCommit
-        (state S.Store tx.old.conn.now) (state S.Store tx.new.conn.now)) }
+    ensures failed { KeepsCommitIfRefused (state S.Store tx.old.conn.now)
+        (state S.Store tx.new.conn.now) result }
     ensures survives { Survives
         (state S.Store tx.old.conn.now) (state S.Store tx.new.conn.now) (λ _. ⊥) }
 {
@@ -124,9 +124,8 @@ pub fn make_inbox<S: Alter>(tx: &mut Transaction<'_, S>) -> Result<(), Error>
         → (state S.Store tx.old.conn.now).now.schema ≡ schema_in l
         → Makes (schema_in l) (both_in l) (inbox_tree (upgraded l) ∷ [])
         (state S.Store tx.old.conn.now) (state S.Store tx.new.conn.now)) }
-    ensures failed { HasCleanDisk (state S.Store tx.new.conn.now)
-        → IsTrue (state S.Store tx.old.conn.now).in_transaction → OnErr result (KeepsCommit
-        (state S.Store tx.old.conn.now) (state S.Store tx.new.conn.now)) }
+    ensures failed { KeepsCommitIfRefused (state S.Store tx.old.conn.now)
+        (state S.Store tx.new.conn.now) result }
     ensures survives { Survives
         (state S.Store tx.old.conn.now) (state S.Store tx.new.conn.now) (λ _. ⊥) }
 {
@@ -143,9 +142,8 @@ pub fn drop_inbox<S: Alter>(tx: &mut Transaction<'_, S>) -> Result<(), Error>
         → (state S.Store tx.old.conn.now).now.schema ≡ both_in l
         → Changes (both_in l) (schema_in (upgraded l)) (schema_in (upgraded l))
         (state S.Store tx.old.conn.now) (state S.Store tx.new.conn.now)) }
-    ensures failed { HasCleanDisk (state S.Store tx.new.conn.now)
-        → IsTrue (state S.Store tx.old.conn.now).in_transaction → OnErr result (KeepsCommit
-        (state S.Store tx.old.conn.now) (state S.Store tx.new.conn.now)) }
+    ensures failed { KeepsCommitIfRefused (state S.Store tx.old.conn.now)
+        (state S.Store tx.new.conn.now) result }
     ensures survives { Survives
         (state S.Store tx.old.conn.now) (state S.Store tx.new.conn.now) (λ _. ⊥) }
 {

@@ -4,7 +4,7 @@ ghost use Rattle.std.specs.Prelude.{◌≡◌, ◌↔◌, ◌<◌, ◌^◌, ℕ,
 ghost use Rattle.sqlite_value.specs.declared.value.Value.TheVariants.{Null};
 ghost use Rattle.database_layout.specs.Layout.{HasInboxForm, service_tables};
 ghost use Rattle.database_layout.specs.Tables.{column, inbox, inbox2, inbox2_columns, inbox2_index, inbox_columns, inbox_index, key_index, key_places, keyed, orders, outbox, service, table};
-ghost use Rattle.database_layout.specs.steps.Parts.{IsBare};
+ghost use Rattle.database_layout.specs.steps.Parts.{IsBareTable};
 
 use crate::check::{checks_service, checks_status};
 use sqlite_items::Items;
@@ -52,7 +52,7 @@ fn is_timeless(stamps: &Stamps) -> bool
 /// Whether the table's key is its first column, and nothing but its name, columns, UNIQUEs and
 /// CHECKs says more of it.
 fn is_bare(table: &Table) -> bool
-    ensures { IsTrue result ↔ IsBare table.now }
+    ensures { IsTrue result ↔ IsBareTable table.now }
 {
     table.key == Some(0)
         && table.primary.as_slice() == [0].as_slice()

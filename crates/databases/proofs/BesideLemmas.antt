@@ -10,7 +10,7 @@ use Rattle.database_layout.specs.Making.{upgraded}
 use Rattle.database_layout.specs.declared.layout.Layout.{Layout}
 use Rattle.database_layout.specs.declared.layout.Layout.TheVariants.{Empty, Service, Inbox, InboxService, ServiceInbox, Inbox2, Inbox2Service, ServiceInbox2, Upgraded, UpgradedService, ServiceUpgraded, ShiftedUpgraded}
 use Rattle.database_layout.proofs.LayoutLemmas.{same_inbox}
-use Rattle.inbox_table.specs.Beside.{GainsInbox, HasSameService, KeepsService, UpgradesTables}
+use Rattle.inbox_table.specs.Beside.{GainsInbox, HasSameService, KeepsServiceBeside, UpgradesTables}
 use Rattle.inbox_table.specs.Rows.{IsAnyInbox, IsListed, rows_from}
 use Rattle.inbox_table.specs.Version.{HasTable}
 use Rattle.inbox_table.specs.declared.version.Version.{Version}
@@ -166,7 +166,7 @@ module _ (old new : Database) (source : List ℕ) (base : ℕ) (commands : List 
         accepted = box.accepted;
       }
 
-  kept : KeepsService old new → IsService old source base commands → IsService new source base commands
+  kept : KeepsServiceBeside old new → IsService old source base commands → IsService new source base commands
   kept k box = service_at box.layout.0 box.layout.1 (k.schema ∙ box.schema) box box.layout.0 box.layout.1 refl (k.service box.layout.0 box.layout.1 box.schema)
 
   gained : GainsInbox old new → IsService old source base commands → IsService new source base commands
@@ -190,7 +190,7 @@ module _ (old new : Database) (source : List ℕ) (base : ℕ) (commands : List 
       go _ has e is same = absurd has
 
 -- a service stays, where events are kept beside it
-pub service_kept : (old new : Database) → KeepsService old new → KeepsRows old new
+pub service_kept : (old new : Database) → KeepsServiceBeside old new → KeepsRows old new
 service_kept old new k source base commands box = kept old new source base commands k box
 
 -- where an inbox is made

@@ -11,7 +11,7 @@ use Rattle.inbox_table.specs.declared.version.Version.{Version}
 use Rattle.inbox_table.specs.declared.version.Version.TheVariants.{One, Two}
 use Rattle.databases.specs.Held.{Holds}
 use Rattle.databases.specs.Print.{database_line, service_line}
-use Rattle.databases.specs.Service.{IsTold}
+use Rattle.databases.specs.Service.{IsServiceTold}
 
 -- the events have so many sources: those of the summary that digests their set
 abbrev pub CountsSources : List EventValue → ℕ → Type 0
@@ -41,7 +41,7 @@ pub record TellsInbox (name : List ℕ) (db : Database) (text : List ℕ) : Type
 
 -- the text tells of the service of this database, and is empty where there is none
 abbrev pub TellsOfService : Database → List ℕ → Type 0
-TellsOfService db text = ((has_name db.schema ≡ false) × (text ≡ [])) ⊎ IsTold db text
+TellsOfService db text = ((has_name db.schema ≡ false) × (text ≡ [])) ⊎ IsServiceTold db text
 
 -- the text tells of this database, which has this name: of its inbox, then of its service
 pub record Describes (name : List ℕ) (db : Database) (text : List ℕ) : Type 0 where

@@ -1,10 +1,10 @@
 -- What a database comes to behind a call that was done, while the disk gave back what was written,
 -- and what any call leaves of it.
-use Rattle.std.specs.Prelude.{Result, IsTrue, OnOk}
+use Rattle.std.specs.Prelude.{ℕ, List, Result, IfOk, IsTrue, OnOk}
 use Rattle.sqlite.specs.State.{State, HasCleanDisk, Survives}
 use Rattle.database_layout.specs.Beside.{KeepsBeside}
 use Rattle.outbox.specs.Call.{IsSettled}
-use Rattle.databases.specs.Held.{KeepsRows, MayHold}
+use Rattle.databases.specs.Held.{KeepsRows, MayHold, ShowsAllRows}
 
 -- where it was done, the database is open
 abbrev pub OpenIfDone : {A E : Type 0} → State → Result A E → Type 0
@@ -17,6 +17,10 @@ SettledIfDone new outcome = HasCleanDisk new → OnOk outcome (IsSettled new)
 -- where it was done, what lies beside the service is as it was
 abbrev pub BesideIfDone : {A E : Type 0} → State → State → Result A E → Type 0
 BesideIfDone old new outcome = HasCleanDisk new → OnOk outcome (KeepsBeside old.now new.now)
+
+-- where it was done, the text has all rows behind a number
+abbrev pub ShowsRowsIfDone : {E : Type 0} → ℕ → State → State → Result (List ℕ) E → Type 0
+ShowsRowsIfDone after old new outcome = HasCleanDisk new → IfOk outcome (ShowsAllRows after old.now)
 
 -- a service beside the inbox has the rows that it had
 abbrev pub LeavesRows : State → State → Type 0

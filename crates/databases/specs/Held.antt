@@ -172,8 +172,8 @@ Serves db given source base commands = IsService db source base commands
 
 -- this is the source and the base of the service that the database had, or would have with the
 -- source that is given, and the new database is that of this service
-abbrev pub IsServed : List ℕ → Database → List ℕ → ℕ → Database → Type 0
-IsServed given old source base new = (s : List ℕ) (b : ℕ) (commands : List Accepted)
+abbrev pub IsServiceThere : List ℕ → Database → List ℕ → ℕ → Database → Type 0
+IsServiceThere given old source base new = (s : List ℕ) (b : ℕ) (commands : List Accepted)
     → Serves old given s b commands → (source ≡ s) × (base ≡ b) × IsService new s b commands
 
 -- the service that the database has, or would have, has the source that is given

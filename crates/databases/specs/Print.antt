@@ -5,19 +5,13 @@ use Rattle.serde_json.specs.Data.{unsigned, Data, number, string, object, no_mem
 use Rattle.serde_json.specs.Written.{compact_text}
 use Rattle.attributes.specs.Event.{EventValue, text}
 use Rattle.event_json.specs.BatchText.{batch_text}
+pub use Rattle.event_json.specs.BatchText.{batch_line, event_line}
+pub use Rattle.coverage.specs.SummaryText.{WithoutLineEnd}
 
 -- how many events were read, how many of them were new, and how many were there
 abbrev pub counts_line : ℕ → ℕ → List ℕ
 counts_line read fresh = codes "read " ++ decimal read ++ codes " new " ++ decimal fresh
     ++ codes " repeated " ++ decimal (read - fresh) ++ 10 ∷ []
-
--- a batch, as one line
-abbrev pub batch_line : List EventValue → List ℕ
-batch_line events = batch_text events ++ 10 ∷ []
-
--- an event, as one line
-abbrev pub event_line : EventValue → List ℕ
-event_line e = text e ++ 10 ∷ []
 
 -- {"base":B,"orders":N,"rows":N,"source":S}
 abbrev pub service_data : List ℕ → ℕ → ℕ → ℕ → Data
@@ -46,9 +40,3 @@ database_data db events sources version =
 unfoldable pub database_line : List ℕ → ℕ → ℕ → ℕ → List ℕ
 database_line db events sources version =
     compact_text (database_data db events sources version) ++ 10 ∷ []
-
--- the text is the rest of these bytes before one LF at their end, or all of them where none is
--- there
-abbrev pub WithoutLineEnd : List ℕ → List ℕ → Type 0
-WithoutLineEnd bytes text = (bytes ≡ text ++ 10 ∷ [])
-    ⊎ ((bytes ≡ text) × ((front : List ℕ) → bytes ≢ front ++ 10 ∷ []))

@@ -28,7 +28,7 @@ TellsOrFounds given start old new text = (source : List ℕ) (base : ℕ) (comma
     → IsService new source base commands × TellsService source base commands text
 
 -- the database is that of a service, and the text tells of it
-pub record IsTold (db : Database) (text : List ℕ) : Type 0 where
+pub record IsServiceTold (db : Database) (text : List ℕ) : Type 0 where
   pub source : List ℕ
   pub base : ℕ
   pub commands : List Accepted

@@ -10,7 +10,7 @@ use Rattle.inbox_table.specs.Rows.{IsInbox}
 use Rattle.inbox_table.specs.declared.fault.TableFault.{TableFault}
 use Rattle.inbox_table.specs.declared.fault.TableFault.TheVariants.{Foreign}
 use Rattle.line_intake.specs.Acknowledged.{TellsPart, TellsSome}
-use Rattle.line_intake.specs.Follow.{AreKept, IsFollowed, Place, StopsStream, Turn}
+use Rattle.line_intake.specs.Follow.{AreKept, IsFollowed, StreamPlace, StopsStream, Turn}
 use Rattle.line_intake.specs.declared.step.FollowFault.{FollowFault}
 use Rattle.databases.specs.Fault.{of_follow, of_table}
 use Rattle.databases.specs.Held.{Holds, IsNoInbox, KeepsRows, MayHold}
@@ -43,7 +43,7 @@ LeavesUnturned old trees = old.may_leave trees ⊎ MayHold old.now trees
 
 -- the stream stopped for this fault: what the turns before it brought is in behind what the
 -- database held, and a crash takes none of it
-pub record StopsInto (start : Place) (out : Option (List ℕ)) (old new : State) (f : StreamFault)
+pub record StopsInto (start : StreamPlace) (out : Option (List ℕ)) (old new : State) (f : StreamFault)
     : Type 0 where
   pub why : FollowFault
   pub is : f ≡ of_follow why

@@ -22,33 +22,33 @@ fault_of trouble.Cache = command.Cache
 fault_of _ = command.Store
 
 -- the name of the fault, as a refused command prints it
-abbrev pub name_of : CommandFault → List ℕ
-name_of command.OutOfMemory = codes "out of memory"
-name_of command.CannotRead = codes "cannot read"
-name_of command.Foreign = codes "Foreign"
-name_of command.Cache = codes "Cache"
-name_of _ = codes "Store"
+abbrev pub name_of_command_fault : CommandFault → List ℕ
+name_of_command_fault command.OutOfMemory = codes "out of memory"
+name_of_command_fault command.CannotRead = codes "cannot read"
+name_of_command_fault command.Foreign = codes "Foreign"
+name_of_command_fault command.Cache = codes "Cache"
+name_of_command_fault _ = codes "Store"
 
 -- what is the matter, and what can be done
-abbrev pub hint : Trouble → List ℕ
-hint trouble.OutOfMemory = codes "memory ran out"
-hint trouble.NoFile =
+abbrev pub hint_of_trouble : Trouble → List ℕ
+hint_of_trouble trouble.OutOfMemory = codes "memory ran out"
+hint_of_trouble trouble.NoFile =
     codes "a database is a file: its name is neither empty nor :memory:, and doesn't begin with file:"
-hint trouble.CannotRead = codes "there is no file of that name, or none that this user may look at"
-hint trouble.Busy =
+hint_of_trouble trouble.CannotRead = codes "there is no file of that name, or none that this user may look at"
+hint_of_trouble trouble.Busy =
     codes "another program has the file open: --wait 30 waits for it, at most 30 seconds"
-hint trouble.Journal =
+hint_of_trouble trouble.Journal =
     codes "SQLite left a journal that it alone can play back: open the file once with sqlite3"
-hint trouble.System =
+hint_of_trouble trouble.System =
     codes "the operating system doesn't open it, lock it or read it: is it a folder, and may this user write it"
-hint trouble.NoDatabase =
+hint_of_trouble trouble.NoDatabase =
     codes "it is no database of SQLite in UTF-8, or has a schema that site can't read"
-hint trouble.Damaged = codes "a page of it is damaged: PRAGMA integrity_check of sqlite3 says where"
-hint trouble.Store =
+hint_of_trouble trouble.Damaged = codes "a page of it is damaged: PRAGMA integrity_check of sqlite3 says where"
+hint_of_trouble trouble.Store =
     codes "it has tables of others too, or a part of it can't be read: PRAGMA integrity_check of sqlite3 says if it is damaged"
-hint trouble.Foreign =
+hint_of_trouble trouble.Foreign =
     codes "its tables or rows aren't as site leaves them: take the events from a copy, or from another site by delta"
-hint trouble.Cache = codes "the variable SITE_CACHE_MIB isn't a whole number from 1 to 1048576"
+hint_of_trouble trouble.Cache = codes "the variable SITE_CACHE_MIB isn't a whole number from 1 to 1048576"
 
 -- what a fault is of a look at an open database
 abbrev pub of_fault : CommandFault → Trouble
@@ -76,12 +76,12 @@ of_kind kind.OutOfMemory = trouble.OutOfMemory
 of_kind _ = trouble.System
 
 -- the system, the environment or the name refuses, before a database is asked
-abbrev pub IsOfSystem : Trouble → Type 0
-IsOfSystem trouble.NoDatabase = ⊥
-IsOfSystem trouble.Damaged = ⊥
-IsOfSystem trouble.Store = ⊥
-IsOfSystem trouble.Foreign = ⊥
-IsOfSystem _ = Unit {0}
+abbrev pub IsSystemTrouble : Trouble → Type 0
+IsSystemTrouble trouble.NoDatabase = ⊥
+IsSystemTrouble trouble.Damaged = ⊥
+IsSystemTrouble trouble.Store = ⊥
+IsSystemTrouble trouble.Foreign = ⊥
+IsSystemTrouble _ = Unit {0}
 
 -- a file of a name isn't opened for this: the name is a file's, and the file may be looked at
 abbrev pub IsOfOpening : Trouble → Type 0
@@ -99,4 +99,4 @@ trouble_data db fault words =
 -- why nothing is told of the database of this name; JSON without white space (RFC 8259), as one
 -- line
 unfoldable pub trouble_line : List ℕ → Trouble → List ℕ
-trouble_line db why = compact_text (trouble_data db (name_of (fault_of why)) (hint why)) ++ 10 ∷ []
+trouble_line db why = compact_text (trouble_data db (name_of_command_fault (fault_of why)) (hint_of_trouble why)) ++ 10 ∷ []

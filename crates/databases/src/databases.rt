@@ -1,6 +1,5 @@
 //! Databases by the names of their files.
-ghost use Rattle.std.specs.Prelude.{◌≡◌, ◌≤◌, ℕ, length, true, IfErr, IfOk, IfSome, IsErrOf};
-ghost use Rattle.attributes.specs.Character.{is_filled};
+ghost use Rattle.std.specs.Prelude.{◌≡◌, ◌≤◌, ℕ, length, IfErr, IfOk, IfSome, IsErrOf};
 ghost use Rattle.attributes.specs.Sequence.{max_sequence};
 ghost use Rattle.inbox_table.specs.Rows.{AreNumbered};
 ghost use Rattle.line_intake.specs.Acknowledged.{TellsAll};
@@ -12,6 +11,8 @@ ghost use Rattle.databases.specs.Print.{counts_line};
 ghost use Rattle.databases.specs.Service.{SaysService};
 ghost use Rattle.databases.specs.Streams.{AcknowledgesUntil};
 ghost use Rattle.databases.specs.declared.trouble.Trouble.TheVariants as trouble;
+ghost use Rattle.outbox.specs.Shown.{IsSource};
+ghost use Rattle.outbox.specs.Order.{IsOrder, IsShortTime};
 
 use crate::fault::CommandFault;
 use crate::pages::EventPages;
@@ -31,7 +32,8 @@ use std::io::{Read, Write};
 /// given. What it is for what the file held, those of [`perform_named`] and its like say: here a
 /// command is given to a database in the same way, where nothing is known of its files.
 pub trait Databases {
-    /// As [`crate::take`].
+    /// Keeps the events that the inbox lacks, and answers the line of how many were new. The watch is
+    /// told meanwhile.
     fn take<W: Watch>(
         &self,
         alloc: Global,
@@ -43,7 +45,8 @@ pub trait Databases {
             × (text ≡ counts_line (length events.now) fresh)) }
         ensures fault { IfErr result (OrOfNamed IsUntold) };
 
-    /// As [`crate::follow`].
+    /// Keeps the events of each line of an input, and acknowledges it on `out` behind that; how many
+    /// lines were refused.
     fn follow<R: Read, W: Write>(
         &self,
         alloc: Global,
@@ -56,18 +59,18 @@ pub trait Databases {
         ensures until { IfErr result (λ f. AcknowledgesUntil f
             (R.remaining input.old) (W.contents out.old) (W.contents out.new)) };
 
-    /// The events that a database holds, as [`crate::held`]. A file that isn't there is not made:
-    /// `CannotRead`.
+    /// The events that the inbox holds. A file that isn't there is not made: `CannotRead`.
     fn events(&self, alloc: Global, name: &str) -> Result<Batch, CommandFault>
         ensures answer { IfOk result AreNumbered }
         ensures fault { IfErr result (OrOfNamed IsUntold) };
 
-    /// As [`crate::summary`]. A file that isn't there is not made: `CannotRead`.
+    /// The line of the inbox's summary. A file that isn't there is not made: `CannotRead`.
     fn summary(&self, alloc: Global, name: &str) -> Result<Text, CommandFault>
         ensures answer { IfOk result SaysSummary }
         ensures fault { IfErr result (OrOfNamed IsUntold) };
 
-    /// As [`crate::delta_pages`]. A file that isn't there is not made: `CannotRead`.
+    /// The inbox's events that a summary lacks, in key order, to be printed page after page. A file
+    /// that isn't there is not made: `CannotRead`.
     fn delta_pages(
         &self,
         alloc: Global,
@@ -77,12 +80,13 @@ pub trait Databases {
         ensures answer { IfOk result (HasDelta summary) }
         ensures fault { IfErr result (OrOfNamed IsUntold) };
 
-    /// As [`crate::scrub_pages`]. A file that isn't there is not made: `CannotRead`.
+    /// The inbox's events in key order, to be printed page after page. A file that isn't there is not
+    /// made: `CannotRead`.
     fn scrub_pages(&self, alloc: Global, name: &str) -> Result<EventPages, CommandFault>
         ensures answer { IfOk result HasEvents }
         ensures fault { IfErr result (OrOfNamed IsUntold) };
 
-    /// As [`crate::delta`].
+    /// The page of the inbox's events that a summary lacks, from a place of key order on.
     fn delta(
         &self,
         alloc: Global,
@@ -93,17 +97,19 @@ pub trait Databases {
         ensures answer { IfOk result (SaysDelta summary.now from) }
         ensures fault { IfErr result (OrOfNamed IsUntold) };
 
-    /// As [`crate::scrub`].
+    /// The page of the inbox's events from a place of key order on.
     fn scrub(&self, alloc: Global, name: &str, from: u64) -> Result<Text, CommandFault>
         ensures answer { IfOk result (SaysPage from) }
         ensures fault { IfErr result (OrOfNamed IsUntold) };
 
-    /// As [`crate::arrivals`]. A file that isn't there is not made: `CannotRead`.
+    /// The page of the inbox's events behind the first so many that came. A file that isn't there is
+    /// not made: `CannotRead`.
     fn arrivals(&self, alloc: Global, name: &str, after: u64) -> Result<Text, CommandFault>
         ensures answer { IfOk result (SaysArrivals after) }
         ensures fault { IfErr result (OrOfNamed IsUntold) };
 
-    /// As [`crate::arrival_pages`]. A file that isn't there is not made: `CannotRead`.
+    /// The inbox's events behind the first so many that came, to be printed page after page. A file
+    /// that isn't there is not made: `CannotRead`.
     fn arrival_pages(
         &self,
         alloc: Global,
@@ -113,7 +119,8 @@ pub trait Databases {
         ensures answer { IfOk result (HasArrived after) }
         ensures fault { IfErr result (OrOfNamed IsUntold) };
 
-    /// As [`crate::order`].
+    /// Gives an order of the file's service a status, and answers the line of the event that says so.
+    /// The service is made with this source where there is none.
     fn order(
         &self,
         alloc: Global,
@@ -124,14 +131,15 @@ pub trait Databases {
         order: u64,
         at: &Moment,
     ) -> Result<Text, CommandFault>
-        requires source { (is_filled source.now ≡ true) × (length source.now ≤ 1024) }
-        requires order { (1 ≤ order) × (order ≤ max_sequence) }
-        requires short { length at.now ≤ 64 }
+        requires source { IsSource source.now }
+        requires order { IsOrder order }
+        requires short { IsShortTime at.now }
         ensures answer { IfOk result (SaysOrder is_source_named source.now
             (record { status = status; order = order; at = at.now })) }
         ensures fault { IfErr result (OrOfNamed IsOfOrder) };
 
-    /// As [`crate::tell_service`].
+    /// The line that tells of the file's service, which is made with this source and base where there
+    /// is none.
     fn service(
         &self,
         alloc: Global,
@@ -140,18 +148,19 @@ pub trait Databases {
         is_source_named: bool,
         base: Option<u64>,
     ) -> Result<Text, CommandFault>
-        requires source { (is_filled source.now ≡ true) × (length source.now ≤ 1024) }
+        requires source { IsSource source.now }
         requires base { IfSome base (λ n. n ≤ max_sequence) }
         ensures answer { IfOk result (SaysService is_source_named source.now base) }
         ensures fault { IfErr result (OrOfNamed IsNoOrders) };
 
-    /// As [`crate::describe`]. A file that isn't there is not made: `CannotRead`.
+    /// The lines that tell what the file is: its inbox and its service. A file that isn't there is not
+    /// made: `CannotRead`.
     fn describe(&self, alloc: Global, name: &str) -> Result<Text, Trouble>
         ensures answer { IfOk result (SaysDatabase name.now) }
         ensures none { IsNoFile name.now → IsErrOf result trouble.NoFile }
         ensures name { IfErr result (λ why. why ≡ trouble.NoFile → IsNoFile name.now) };
 
-    /// As [`crate::relay`], and whether the service was made.
+    /// The page of the rows of the file's service behind a number, and whether the service was made.
     fn relay(
         &self,
         alloc: Global,
@@ -159,11 +168,12 @@ pub trait Databases {
         source: &Text,
         after: u64,
     ) -> Result<Relayed, CommandFault>
-        requires { (is_filled source.now ≡ true) × (length source.now ≤ 1024) }
+        requires { IsSource source.now }
         ensures answer { IfOk result (λ r. SaysRows after r.text) }
         ensures fault { IfErr result (OrOfNamed IsNoRows) };
 
-    /// As [`crate::relay_all`]. A file that isn't there is not made: `CannotRead`.
+    /// All rows of the file's service behind a number, in pages. A file that isn't there is not made:
+    /// `CannotRead`.
     fn relay_all(&self, alloc: Global, name: &str, after: u64) -> Result<Text, CommandFault>
         ensures answer { IfOk result (SaysAllRows after) }
         ensures fault { IfErr result (OrOfNamed IsUntold) };

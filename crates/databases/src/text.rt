@@ -3,7 +3,7 @@ ghost use Rattle.std.specs.Prelude.{◌≡◌, IfOk, OnOk, string_bytes};
 ghost use Rattle.serde_json.specs.Written.{compact_text};
 ghost use Rattle.databases.specs.Print.{WithoutLineEnd, batch_line, counts_line, database_data, database_line, event_line, service_data, service_line};
 ghost use Rattle.databases.specs.Trouble.{trouble_data};
-ghost use Rattle.databases.specs.steps.Tokens.{Adds, number_member, service_tokens, text_member, trouble_tokens};
+ghost use Rattle.databases.specs.steps.Tokens.{AddsTokens, number_member, service_tokens, text_member, trouble_tokens};
 
 use attributes::{Batch, Sequenced, Text};
 use event_json::write_sequenced;
@@ -40,7 +40,7 @@ pub fn event_line(alloc: Global, event: &Sequenced) -> Result<Text, AllocError>
 
 /// Writes a member with a number.
 fn write_number(out: &mut Writer, name: &str, number: u64) -> Result<(), AllocError>
-    ensures { OnOk result (Adds out.old out.new (number_member name.now number)) }
+    ensures { OnOk result (AddsTokens out.old out.new (number_member name.now number)) }
 {
     out.key(name)?;
     out.u64(number)?;
@@ -49,7 +49,7 @@ fn write_number(out: &mut Writer, name: &str, number: u64) -> Result<(), AllocEr
 
 /// Writes a member with a text.
 fn write_text(out: &mut Writer, name: &str, text: &str) -> Result<(), AllocError>
-    ensures { OnOk result (Adds out.old out.new (text_member name.now text.now)) }
+    ensures { OnOk result (AddsTokens out.old out.new (text_member name.now text.now)) }
 {
     out.key(name)?;
     out.string(text)?;
@@ -64,7 +64,7 @@ fn write_service(
     orders: u64,
     rows: u64,
 ) -> Result<(), AllocError>
-    ensures { OnOk result (Adds out.old out.new (service_tokens source.now base orders rows)) }
+    ensures { OnOk result (AddsTokens out.old out.new (service_tokens source.now base orders rows)) }
 {
     out.begin_object()?;
     write_number(out, "base", base)?;
@@ -152,7 +152,7 @@ pub fn database_line(
 
 /// Writes as JSON why nothing is told of a database.
 fn write_trouble(out: &mut Writer, name: &str, fault: &str, hint: &str) -> Result<(), AllocError>
-    ensures { OnOk result (Adds out.old out.new (trouble_tokens name.now fault.now hint.now)) }
+    ensures { OnOk result (AddsTokens out.old out.new (trouble_tokens name.now fault.now hint.now)) }
 {
     out.begin_object()?;
     write_text(out, "db", name)?;

@@ -2,7 +2,7 @@
 ghost use Rattle.std.specs.Prelude.{◌≡◌, ◌≢◌, IfOk};
 ghost use Rattle.databases.specs.Fault.{IsOfNamed};
 ghost use Rattle.databases.specs.declared.trouble.Trouble.TheVariants as trouble;
-ghost use Rattle.databases.specs.Trouble.{IsOfOpening, IsOfSystem, fault_of, hint, name_of, of_error, of_fault, of_kind, trouble_line};
+ghost use Rattle.databases.specs.Trouble.{IsOfOpening, IsSystemTrouble, fault_of, hint_of_trouble, name_of_command_fault, of_error, of_fault, of_kind, trouble_line};
 
 use crate::fault::CommandFault;
 use crate::text::trouble_text;
@@ -55,7 +55,7 @@ impl Trouble {
 
     /// The name of that fault, as a refused command prints it.
     fn name(self) -> &'static str
-        ensures { result.now ≡ name_of (fault_of self) }
+        ensures { result.now ≡ name_of_command_fault (fault_of self) }
     {
         match self {
             Trouble::OutOfMemory => "out of memory",
@@ -68,7 +68,7 @@ impl Trouble {
 
     /// What is the matter, and what can be done.
     pub fn hint(self) -> &'static str
-        ensures { result.now ≡ hint self }
+        ensures { result.now ≡ hint_of_trouble self }
     {
         match self {
             Trouble::OutOfMemory => "memory ran out",
@@ -128,7 +128,7 @@ pub fn of_error(error: sqlite::Error) -> Trouble
 /// What a refusal of the operating system is.
 pub fn of_kind(kind: ErrorKind) -> Trouble
     ensures exact { result ≡ of_kind kind }
-    ensures system { IsOfSystem result }
+    ensures system { IsSystemTrouble result }
     ensures opening { IsOfOpening result }
 {
     match kind {
@@ -139,7 +139,7 @@ pub fn of_kind(kind: ErrorKind) -> Trouble
 
 /// Why the files of a database weren't opened.
 pub fn of_open(error: OpenError) -> Trouble
-    ensures system { IsOfSystem result }
+    ensures system { IsSystemTrouble result }
     ensures opening { IsOfOpening result }
 {
     match error {

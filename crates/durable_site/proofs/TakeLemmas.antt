@@ -6,7 +6,7 @@ use Rattle.attributes.specs.Event.{EventValue}
 use Rattle.inbox.specs.KeyOrder.{key_cmp}
 use Rattle.inbox.specs.Ordered.{append_new}
 use Rattle.inbox_table.specs.Calls.{KeepEachEffect, KeepEffect, joined}
-use Rattle.durable_site.specs.Durable.{TakeEachEffect, TakeEffect}
+use Rattle.durable_site.specs.Durable.{TakeEachEffect, TakeEffectOfFile}
 
 -- a disk that is honest in the end was so before
 pub was_clean : (was is : State) (C : Trees → Type 0) → Survives was is C → HasCleanDisk is → HasCleanDisk was
@@ -14,7 +14,7 @@ was_clean was is C s clean = let below = s.clean in omega arith
 
 pub kept_takes : (batch old : List EventValue) (was is : State) (C : Trees → Type 0) (fresh : ℕ)
     → Survives was is C → KeepEffect batch was is (Ok fresh) → HasCleanDisk is
-    → TakeEffect batch old (append_new key_cmp old batch) was is (Ok fresh)
+    → TakeEffectOfFile batch old (append_new key_cmp old batch) was is (Ok fresh)
 kept_takes batch old was is C fresh s kept clean =
     let before = was_clean was is C s clean in
     record {

@@ -17,8 +17,8 @@ abbrev pub events_of : {S : Type 0} → DurableSite S → List EventValue
 events_of d = append_new key_cmp d.site d.owed
 
 -- the table has just these
-abbrev pub IsWhole : State → List EventValue → Type 0
-IsWhole s events = HasCleanDisk s → IsTrue s.is_open → IsInbox s.now events
+abbrev pub IsTableOf : State → List EventValue → Type 0
+IsTableOf s events = HasCleanDisk s → IsTrue s.is_open → IsInbox s.now events
 
 -- what counting does that was owed: nothing is owed then, or memory ran out and something is
 pub record CatchesUp {S : Type 0} (old new : DurableSite S) (result : Result (Unit {0}) AllocError)
@@ -31,16 +31,16 @@ pub record CatchesUp {S : Type 0} (old new : DurableSite S) (result : Result (Un
 
 -- the events came behind what there was, each in its turn and where it wasn't there by then, and so
 -- many of them were not; or they are refused, and there is what there was
-pub record Takes (batch old new : List EventValue) (result : Result ℕ TableFault) : Type 0 where
+pub record TakesBehind (batch old new : List EventValue) (result : Result ℕ TableFault) : Type 0 where
   pub taken : OnOk result (new ≡ append_new key_cmp old batch)
   pub refused : OnErr result (new ≡ old)
   pub fault : IfErr result IsOfStore
 
 -- and what that does to the database, while the disk gives back what was written
-pub record TakeEffect (batch old new : List EventValue) (was is : State)
+pub record TakeEffectOfFile (batch old new : List EventValue) (was is : State)
     (result : Result ℕ TableFault) : Type 0 where
-  pub whole : IsWhole was old → IsWhole is new
-  pub fresh : IsWhole was old → IfOk result (λ fresh. length old + fresh ≡ length new)
+  pub whole : IsTableOf was old → IsTableOf is new
+  pub fresh : IsTableOf was old → IfOk result (λ fresh. length old + fresh ≡ length new)
   -- a crash leaves what was taken
   pub stays_open : OnOk result (IsTrue is.is_open)
   pub settled : OnOk result (IsSettled is)
@@ -61,9 +61,9 @@ pub record TakesEach (lists : List (List EventValue)) (old new : List EventValue
 -- and what that does to the database, while the disk gives back what was written
 pub record TakeEachEffect (lists : List (List EventValue)) (old new : List EventValue)
     (was is : State) (result : Result (List ℕ) TableFault) : Type 0 where
-  pub whole : IsWhole was old → IsWhole is new
+  pub whole : IsTableOf was old → IsTableOf is new
   -- so many of each batch were not there by then, those of the batches before it included
-  pub fresh : IsWhole was old → IfOk result (AreFreshEach old lists)
+  pub fresh : IsTableOf was old → IfOk result (AreFreshEach old lists)
   -- a crash leaves what was taken
   pub stays_open : OnOk result (IsTrue is.is_open)
   pub settled : OnOk result (IsSettled is)

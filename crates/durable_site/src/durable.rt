@@ -5,7 +5,7 @@ ghost use Rattle.sqlite.specs.State.{HasCleanDisk, Survives};
 ghost use Rattle.inbox.specs.KeyOrder.{key_cmp};
 ghost use Rattle.inbox.specs.Ordered.{append_new};
 ghost use Rattle.inbox_table.specs.Calls.{MayTake, joined};
-ghost use Rattle.inbox_table.specs.Opening.{MayOpen, Opens, RejectsOpening};
+ghost use Rattle.inbox_table.specs.Opening.{LeavesOpening, Opens, RejectsOpening};
 
 use crate::owed::Owed;
 use attributes::{Batch, List};
@@ -25,7 +25,7 @@ pub struct DurableSite<S: Alter> {
 }
 
 impl<S: Alter + Drop> DurableSite<S> {
-    ghost use Rattle.durable_site.specs.Durable.{CatchesUp, IsWhole, TakeEachEffect, TakeEffect, Takes, TakesEach, events_of};
+    ghost use Rattle.durable_site.specs.Durable.{CatchesUp, IsTableOf, TakeEachEffect, TakeEffectOfFile, TakesBehind, TakesEach, events_of};
 
     /// Opens the table of a database, as [`Table::open_and_load`] does, and counts its events. Time
     /// and memory in proportion to them.
@@ -37,10 +37,8 @@ impl<S: Alter + Drop> DurableSite<S> {
             (events_of d)) }
         ensures rejects { IfErr result (λ n.
             RejectsOpening (state S.Store conn) (state S.Store n.conn) n.fault) }
-        ensures crash { IfOk result (λ d. Survives (state S.Store conn)
-            (state S.Store d.table.conn) (MayOpen (state S.Store conn).now)) }
-        ensures crash_refused { IfErr result (λ n. Survives (state S.Store conn)
-            (state S.Store n.conn) (MayOpen (state S.Store conn).now)) }
+        ensures crash { IfOk result (λ d. LeavesOpening (state S.Store conn) (state S.Store d.table.conn)) }
+        ensures crash_refused { IfErr result (λ n. LeavesOpening (state S.Store conn) (state S.Store n.conn)) }
     {
         let loaded = match Table::open_and_load(alloc, conn, &Unwatched) {
             Ok(loaded) => loaded,
@@ -73,9 +71,9 @@ impl<S: Alter + Drop> DurableSite<S> {
     /// Refused as `keep` is, or for want of memory where something is owed; then nothing is taken.
     /// Where memory runs out once they are kept, the rest is owed, and the answer is as before.
     pub fn take(&mut self, batch: Batch) -> Result<u64, TableFault>
-        ensures takes { Takes batch (events_of self.old) (events_of self.new) result }
+        ensures takes { TakesBehind batch (events_of self.old) (events_of self.new) result }
         ensures effect { HasCleanDisk (state S.Store self.new.table.conn)
-            → TakeEffect batch (events_of self.old) (events_of self.new)
+            → TakeEffectOfFile batch (events_of self.old) (events_of self.new)
             (state S.Store self.old.table.conn) (state S.Store self.new.table.conn) result }
         ensures crash { Survives
             (state S.Store self.old.table.conn) (state S.Store self.new.table.conn)

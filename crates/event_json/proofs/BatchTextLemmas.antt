@@ -11,7 +11,7 @@ use Rattle.event_json.specs.Spelling.{event_in, list_of}
 use Rattle.event_json.specs.Reading.{AreFaultless, Reads, max_input}
 use Rattle.event_json.specs.BatchText.{batch_text}
 use Rattle.event_json.specs.steps.Joined.{joined}
-use Rattle.event_json.proofs.PartsLemmas.{offer_in-members_of}
+use Rattle.event_json.proofs.PartsLemmas.{parts_in-members_of}
 use Rattle.event_json.proofs.WriteLemmas.{batch_text-joined, utf8_batch_text}
 use Rattle.event_json.proofs.Laws.{Laws}
 
@@ -47,7 +47,7 @@ read-batch_text laws es h =
 
 faultless_objects : Laws → (es : List EventValue) → AllByRecursion IsEvent es → AreFaultless (list_of (objects es))
 faultless_objects laws [] h = tt
-faultless_objects laws (e ∷ es) h = (ap fault (offer_in-members_of laws e h.0) ∙ h.0.faultless, faultless_objects laws es h.1)
+faultless_objects laws (e ∷ es) h = (ap fault (parts_in-members_of laws e h.0) ∙ h.0.faultless, faultless_objects laws es h.1)
 
 -- an event is the event of its own parts
 abbrev pub PartsMakeEvents : Type 0
@@ -56,7 +56,7 @@ PartsMakeEvents = (e : EventValue) → IsEvent e → event_of (parts_of e) ≡ e
 events_of_objects : Laws → PartsMakeEvents → (es : List EventValue) → AllByRecursion IsEvent es → es ≡ map event_in (list_of (objects es))
 events_of_objects laws again [] h = refl
 events_of_objects laws again (e ∷ es) h =
-    let event : e ≡ event_in (object (members_of e)) = sym (ap event_of (offer_in-members_of laws e h.0) ∙ again e h.0) in
+    let event : e ≡ event_in (object (members_of e)) = sym (ap event_of (parts_in-members_of laws e h.0) ∙ again e h.0) in
     ap₂ (λ (x : EventValue) (xs : List EventValue). x ∷ xs) event (events_of_objects laws again es h.1)
 
 pub Reads-batch_text : Laws → PartsMakeEvents → (es : List EventValue) → AllByRecursion IsEvent es → length (batch_text es) ≤ max_input → Reads (batch_text es) es

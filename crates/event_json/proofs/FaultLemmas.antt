@@ -12,7 +12,7 @@ use Rattle.attributes.specs.declared.content.Offered.{Offered}
 use Rattle.attributes.specs.declared.scalar.Given.{Given}
 use Rattle.attributes.specs.declared.fault.Fault.{Fault}
 use Rattle.attributes.specs.declared.fault.Fault.TheVariants.{OutOfMemory, TooLarge}
-use Rattle.event_json.specs.Spelling.{offer_in, fault_in}
+use Rattle.event_json.specs.Spelling.{parts_in, fault_in}
 use Rattle.event_json.specs.Reading.{IsNoSpelling}
 use Rattle.event_json.specs.declared.fault.ReadFault.{ReadFault}
 use Rattle.event_json.specs.declared.fault.ReadFault.TheVariants as refusal
@@ -55,7 +55,7 @@ fault_in-other (boolean b) h = cc
 fault_in-other (number n) h = cc
 fault_in-other (string s) h = cc
 fault_in-other (array ds) h = cc
-fault_in-other (object ms) h = fault-other (offer_in ms) h
+fault_in-other (object ms) h = fault-other (parts_in ms) h
 
 of_found : (o : Option Data) → IsMemory (option_and_then fault_in o) → ⊥
 of_found None h = cc

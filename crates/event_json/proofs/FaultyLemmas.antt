@@ -18,7 +18,7 @@ use Rattle.event_json.specs.Spelling.{candidates, event_in, fault_in, list_of}
 use Rattle.event_json.specs.declared.faulty.FaultyMembers.{FaultyMembers}
 use Rattle.event_json.specs.steps.FaultyMembers.{AreFaultyOf, HasMembers}
 use Rattle.event_json.specs.steps.Pieces.{Gathers, GoesOn}
-use Rattle.event_json.specs.Faulty.{FaultyMember, TellsFaulty, fault_unless, faulty, member_fault, member_of, number_fault, with_fault}
+use Rattle.event_json.specs.Faulty.{FaultyMember, TellsFaulty, fault_unless, faulty, fault_of_numbered, member_of, number_fault, with_fault}
 use Rattle.event_json.specs.declared.faulty.Faulty.{Faulty}
 use Rattle.event_json.specs.steps.Told.{AllAreNone}
 use Rattle.event_json.proofs.FaultLemmas.{IsMemory, either_other, fault_in-other}
@@ -26,7 +26,7 @@ use Rattle.event_json.proofs.WalkLemmas.{candidates-Object}
 
 -- the value v at n, which has a fault, joins those that are told
 pub told_step : (n m : ℕ) (told new : List Faulty) (t : Faulty) (v : Value) (vs rest : List Value) (o : Option Fault) (all : List FaultyMember) → vs ≡ v ∷ rest → m ≡ n + 1
-    → o ≡ member_fault (view v) → o ≡ Some t.fault → t.index ≡ n → t.tree ≡ v → new ≡ told ++ t ∷ []
+    → o ≡ fault_of_numbered (view v) → o ≡ Some t.fault → t.index ≡ n → t.tree ≡ v → new ≡ told ++ t ∷ []
     → map member_of told ++ faulty n (map view vs) ≡ all → map member_of new ++ faulty m (map view rest) ≡ all
 told_step n m told new t v vs rest o all is_vs is_m is_o is_f at is_tree is_new whole =
     let after = faulty m (map view rest) in
@@ -42,7 +42,7 @@ told_step n m told new t v vs rest o all is_vs is_m is_o is_f at is_tree is_new 
 
 -- the value v at n, which has none, is passed over
 pub quiet_step : (n m : ℕ) (told : List Faulty) (v : Value) (vs rest : List Value) (o : Option Fault) (all : List FaultyMember) → vs ≡ v ∷ rest → m ≡ n + 1
-    → o ≡ member_fault (view v) → ((f : Fault) → o ≡ Some f → ⊥) → map member_of told ++ faulty n (map view vs) ≡ all → map member_of told ++ faulty m (map view rest) ≡ all
+    → o ≡ fault_of_numbered (view v) → ((f : Fault) → o ≡ Some f → ⊥) → map member_of told ++ faulty n (map view vs) ≡ all → map member_of told ++ faulty m (map view rest) ≡ all
 quiet_step n m told v vs rest None all is_vs is_m is_o quiet whole =
     ap (λ k. map member_of told ++ faulty k (map view rest)) (is_m ∙ add-one n)
     ∙ ap (λ f. map member_of told ++ with_fault n (view v) f (faulty (suc n) (map view rest))) is_o
@@ -61,12 +61,12 @@ first_given None fs new rest f n is_n some is begins =
     absurd (nothing_given (some (omega (arith, some_left))))
 first_given (Some x) fs new rest f n is_n some is begins = (cc, cc)
 
-none_faulty : (n : ℕ) (ds : List Data) → AllAreNone (map member_fault ds) → faulty n ds ≡ []
+none_faulty : (n : ℕ) (ds : List Data) → AllAreNone (map fault_of_numbered ds) → faulty n ds ≡ []
 none_faulty n [] h = refl
 none_faulty n (d ∷ ds) h = ap (λ o. with_fault n d o (faulty (suc n) ds)) h.0 ∙ none_faulty (suc n) ds h.1
 
 -- where none is at fault nothing is told
-pub quiet : (told : List FaultyMember) (n : ℕ) (ds : List Data) (fs : List (Option Fault)) → fs ≡ map member_fault ds → AllAreNone fs → told ≡ told ++ faulty n ds
+pub quiet : (told : List FaultyMember) (n : ℕ) (ds : List Data) (fs : List (Option Fault)) → fs ≡ map fault_of_numbered ds → AllAreNone fs → told ≡ told ++ faulty n ds
 quiet told n ds fs are none = sym (append-nil told) ∙ ap (λ l. told ++ l) (sym (none_faulty n ds (subst AllAreNone are none)))
 
 same_candidates : (v w : Data) (ds es : List Data) → Some v ≡ Some w → candidates v ≡ Some ds → candidates w ≡ Some es → ds ≡ es
@@ -86,8 +86,8 @@ faulty-append : (n : ℕ) (ds es : List Data) → faulty n (ds ++ es) ≡ faulty
 faulty-append n [] es = let here : n ≡ n + 0 = omega arith in ap (λ k. faulty k es) here
 faulty-append n (d ∷ ds) es =
     let on : suc n + length ds ≡ n + suc (length ds) = omega arith in
-    ap (with_fault n d (member_fault d)) (faulty-append (suc n) ds es ∙ ap (λ k. faulty (suc n) ds ++ faulty k es) on)
-    ∙ with_fault-append n d (member_fault d) (faulty (suc n) ds) (faulty (n + suc (length ds)) es)
+    ap (with_fault n d (fault_of_numbered d)) (faulty-append (suc n) ds es ∙ ap (λ k. faulty (suc n) ds ++ faulty k es) on)
+    ∙ with_fault-append n d (fault_of_numbered d) (faulty (suc n) ds) (faulty (n + suc (length ds)) es)
 
 pub more_told : (o n : FaultyMembers) (es : List Data) → map member_of n.told.items ≡ map member_of o.told.items ++ faulty o.count es → n.count ≡ o.count + length es → GoesOn (AreFaultyOf o) (AreFaultyOf n) es
 more_told o n es told count ds h =
@@ -120,7 +120,7 @@ fault_unless-other : (e : EventValue) (o : Option ℕ) → IsMemory (fault_unles
 fault_unless-other e (Some n) h = cc
 fault_unless-other e None h = fault_at-other (attribute_of (codes "sequence") e) h
 
-member_fault-other : (d : Data) → IsMemory (member_fault d) → ⊥
+member_fault-other : (d : Data) → IsMemory (fault_of_numbered d) → ⊥
 member_fault-other d h =
     let e = event_in d in
     either_other (fault_in d) (number_fault e) (fault_in-other d) (fault_unless-other e (number_of e)) h
@@ -135,7 +135,7 @@ with_fault-named n d (Some f) others other rest = ((λ e. other (ap Some e)), re
 
 faulty-named : (n : ℕ) (ds : List Data) → AllByRecursion IsNamed (faulty n ds)
 faulty-named n [] = tt
-faulty-named n (d ∷ ds) = with_fault-named n d (member_fault d) (faulty (suc n) ds) (member_fault-other d) (faulty-named (suc n) ds)
+faulty-named n (d ∷ ds) = with_fault-named n d (fault_of_numbered d) (faulty (suc n) ds) (member_fault-other d) (faulty-named (suc n) ds)
 
 of_members : (told : List Faulty) → AllByRecursion IsNamed (map member_of told) → AllByRecursion (λ (t : Faulty). t.fault ≢ OutOfMemory) told
 of_members [] h = tt

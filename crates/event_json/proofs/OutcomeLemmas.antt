@@ -7,10 +7,10 @@ use Rattle.attributes.specs.Event.{EventValue}
 use Rattle.attributes.specs.declared.fault.Fault.{Fault}
 use Rattle.event_json.specs.Spelling.{fault_in, event_in, list_of}
 use Rattle.event_json.specs.Reading.{AreFaultless, IsNoSpelling, Reads, Refuses, max_input}
-use Rattle.event_json.specs.Parts.{HoldsSome, SpellsSome, PartsJoin, WholesRead}
+use Rattle.event_json.specs.Parts.{HoldsSome, SpellsSome, PartsSpellBoth, WholesRead}
 use Rattle.event_json.specs.steps.Pieces.{Gathers, GoesOn}
 use Rattle.event_json.specs.steps.Walk.{bad, bad_or, first_bad}
-use Rattle.event_json.specs.steps.Outcome.{IsOutcome, ok_of, result_of, unless_refused}
+use Rattle.event_json.specs.steps.Outcome.{IsReadingOutcome, ok_of, result_of, unless_refused}
 use Rattle.event_json.specs.declared.fault.ReadFault.{ReadFault}
 use Rattle.event_json.specs.declared.read.Outcome.{Outcome}
 use Rattle.event_json.specs.declared.fault.ReadFault.TheVariants.{OutOfMemory, BadEvent}
@@ -40,7 +40,7 @@ length_events (d ∷ ds) = ap suc (length_events ds)
 -- ---- members more
 
 -- the first bad one stays the first
-pub stays_refused : (o n : Outcome) (f : ReadFault) (es : List Data) → o.refusal ≡ Some f → n.refusal ≡ Some f → GoesOn (IsOutcome o) (IsOutcome n) es
+pub stays_refused : (o n : Outcome) (f : ReadFault) (es : List Data) → o.refusal ≡ Some f → n.refusal ≡ Some f → GoesOn (IsReadingOutcome o) (IsReadingOutcome n) es
 stays_refused o n f es is new ds h =
     let first : first_bad 0 ds ≡ Some f = sym h.0 ∙ is in (
       new ∙ sym (first_bad-append 0 ds es ∙ ap (λ x. option_or x (first_bad (0 + length ds) es)) first),
@@ -48,20 +48,20 @@ stays_refused o n f es is new ds h =
     )
 
 -- where none was bad, those that come are walked from where they stand
-walked_on : (o : Outcome) (ds es : List Data) → o.refusal ≡ None → IsOutcome o ds → first_bad 0 (ds ++ es) ≡ first_bad (length o.events) es
+walked_on : (o : Outcome) (ds es : List Data) → o.refusal ≡ None → IsReadingOutcome o ds → first_bad 0 (ds ++ es) ≡ first_bad (length o.events) es
 walked_on o ds es was h =
     let none : first_bad 0 ds ≡ None = sym h.0 ∙ was in
     let place : length o.events ≡ length ds = ap length (h.1 was) ∙ length_events ds in
     let here : 0 + length ds ≡ length o.events = omega (arith, place) in
     first_bad-append 0 ds es ∙ ap (λ x. option_or x (first_bad (0 + length ds) es)) none ∙ ap (λ k. first_bad k es) here
 
-pub none_refused : (o n : Outcome) (es : List Data) → o.refusal ≡ None → n.refusal ≡ None → first_bad (length o.events) es ≡ None → n.events ≡ o.events ++ map event_in es → GoesOn (IsOutcome o) (IsOutcome n) es
+pub none_refused : (o n : Outcome) (es : List Data) → o.refusal ≡ None → n.refusal ≡ None → first_bad (length o.events) es ≡ None → n.events ≡ o.events ++ map event_in es → GoesOn (IsReadingOutcome o) (IsReadingOutcome n) es
 none_refused o n es was is none are ds h = (
   is ∙ sym (walked_on o ds es was h ∙ none),
   λ _. are ∙ ap (λ x. x ++ map event_in es) (h.1 was) ∙ sym (map-append event_in ds es),
 )
 
-pub one_refused : (o n : Outcome) (f : ReadFault) (es : List Data) → o.refusal ≡ None → n.refusal ≡ Some f → first_bad (length o.events) es ≡ Some f → GoesOn (IsOutcome o) (IsOutcome n) es
+pub one_refused : (o n : Outcome) (f : ReadFault) (es : List Data) → o.refusal ≡ None → n.refusal ≡ Some f → first_bad (length o.events) es ≡ Some f → GoesOn (IsReadingOutcome o) (IsReadingOutcome n) es
 one_refused o n f es was is bad_one ds h = (
   is ∙ sym (walked_on o ds es was h ∙ bad_one),
   λ none. absurd (let no = sym is ∙ none in cc),
@@ -108,28 +108,28 @@ read_named : (b : List ℕ) (ds : List Data) (r : Option ReadFault) (es : List E
 read_named b ds None es c = tt
 read_named b ds (Some f) es c = λ i is. unnamed (array c.holds.items) f i (λ _. no_spelling (array c.holds.items) (list_of c.holds.items) f refl (ap (first_bad 0) (sym c.holds.are) ∙ sym c.is)) is
 
-comes : (b : List ℕ) (o : Outcome) (g : Gathers b (IsOutcome o)) → Comes b g.members o.refusal o.events
+comes : (b : List ℕ) (o : Outcome) (g : Gathers b (IsReadingOutcome o)) → Comes b g.members o.refusal o.events
 comes b o g = record { holds = g.holds; is = g.is.0; are = g.is.1 }
 
-pub part_spells : (b : List ℕ) (o : Outcome) → Gathers b (IsOutcome o) → IfSome (ok_of (result_of o)) (λ l. SpellsSome b l)
+pub part_spells : (b : List ℕ) (o : Outcome) → Gathers b (IsReadingOutcome o) → IfSome (ok_of (result_of o)) (λ l. SpellsSome b l)
 part_spells b o g = spelled_ok b g.members o.refusal o.events (comes b o g)
 
-pub whole_reads : (b : List ℕ) (o : Outcome) → Gathers (b ++ []) (IsOutcome o) → length b ≤ max_input → IfOk (result_of o) (λ l. Reads b l)
-whole_reads b o h fits = let g = subst (λ x. Gathers x (IsOutcome o)) (append-nil b) h in read_ok b g.members o.refusal o.events (comes b o g) fits
+pub whole_reads : (b : List ℕ) (o : Outcome) → Gathers (b ++ []) (IsReadingOutcome o) → length b ≤ max_input → IfOk (result_of o) (λ l. Reads b l)
+whole_reads b o h fits = let g = subst (λ x. Gathers x (IsReadingOutcome o)) (append-nil b) h in read_ok b g.members o.refusal o.events (comes b o g) fits
 
-pub whole_refuses : (b : List ℕ) (o : Outcome) → Gathers (b ++ []) (IsOutcome o) → length b ≤ max_input → IfErr (result_of o) (λ f. f ≢ OutOfMemory → Refuses b f)
-whole_refuses b o h fits = let g = subst (λ x. Gathers x (IsOutcome o)) (append-nil b) h in read_refused b g.members o.refusal o.events (comes b o g) fits
+pub whole_refuses : (b : List ℕ) (o : Outcome) → Gathers (b ++ []) (IsReadingOutcome o) → length b ≤ max_input → IfErr (result_of o) (λ f. f ≢ OutOfMemory → Refuses b f)
+whole_refuses b o h fits = let g = subst (λ x. Gathers x (IsReadingOutcome o)) (append-nil b) h in read_refused b g.members o.refusal o.events (comes b o g) fits
 
-pub whole_names : (b : List ℕ) (o : Outcome) → Gathers (b ++ []) (IsOutcome o) → IfErr (result_of o) (λ f. (i : ℕ) → f ≢ BadEvent i fault.OutOfMemory)
-whole_names b o h = let g = subst (λ x. Gathers x (IsOutcome o)) (append-nil b) h in read_named b g.members o.refusal o.events (comes b o g)
+pub whole_names : (b : List ℕ) (o : Outcome) → Gathers (b ++ []) (IsReadingOutcome o) → IfErr (result_of o) (λ f. (i : ℕ) → f ≢ BadEvent i fault.OutOfMemory)
+whole_names b o h = let g = subst (λ x. Gathers x (IsReadingOutcome o)) (append-nil b) h in read_named b g.members o.refusal o.events (comes b o g)
 
 if_refused : {T E : Type 0} (P : E → Type 0) (Q : Type 0) (r : Result T E) → Q → IfErr r (λ e. P e → Q)
 if_refused P Q (Ok t) q = tt
 if_refused P Q (Err e) q = λ _. q
 
-pub whole_has_bytes : (b : List ℕ) (o : Outcome) → Gathers (b ++ []) (IsOutcome o) → IfErr (result_of o) (λ f. f ≡ OutOfMemory → 0 < length b)
+pub whole_has_bytes : (b : List ℕ) (o : Outcome) → Gathers (b ++ []) (IsReadingOutcome o) → IfErr (result_of o) (λ f. f ≡ OutOfMemory → 0 < length b)
 whole_has_bytes b o h =
-    let g = subst (λ x. Gathers x (IsOutcome o)) (append-nil b) h in
+    let g = subst (λ x. Gathers x (IsReadingOutcome o)) (append-nil b) h in
     if_refused (λ f. f ≡ OutOfMemory) (0 < length b) (result_of o) (has_bytes b (array g.holds.items) (g.holds.utf8, g.holds.reads))
 
 -- ---- parts that were read side by side
@@ -149,7 +149,7 @@ two_texts o f t c l m a b =
       are_events = ap₂ (λ (x y : List EventValue). x ++ y) a.are_events b.are_events ∙ sym (map-append event_in a.members b.members);
     }
 
-pub parts_join : PartsJoin
+pub parts_join : PartsSpellBoth
 parts_join b opened closed i l m at a h =
     let o = if opened then [] else 91 ∷ [] in
     let c = if closed then [] else 93 ∷ [] in

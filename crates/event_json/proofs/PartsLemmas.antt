@@ -17,7 +17,7 @@ use Rattle.attributes.specs.declared.scalar.Scalar.TheVariants as scalar
 use Rattle.attributes.specs.declared.content.Content.{Content}
 use Rattle.attributes.specs.declared.content.Content.TheVariants as content
 use Rattle.event_json.specs.Payload.{tree_name, bytes_name, is_payload, attribute_members, unless_null, decoded, payload, offered_in}
-use Rattle.event_json.specs.Spelling.{given_in, with_given, spelled, offer_in}
+use Rattle.event_json.specs.Spelling.{given_in, with_given, spelled, parts_in}
 use Rattle.event_json.proofs.PayloadNameLemmas.{same_name, tree_is_payload, bytes_is_payload, is_payload-same, is_payload-neither, not_tree, not_bytes, is_eq-names, choice_at_other}
 use Rattle.event_json.proofs.Laws.{Laws}
 use Rattle.event_json.proofs.PayloadLemmas.{offer}
@@ -117,11 +117,11 @@ attribute_members-with_content content.Nothing ms = refl
 attribute_members-with_content (content.Tree d) ms = attribute_members-put tree_name d ms tree_is_payload
 attribute_members-with_content (content.Bytes b) ms = attribute_members-put bytes_name (string (encode_of standard b)) ms bytes_is_payload
 
-pub offer_in-members_of : Laws → (e : EventValue) → IsEvent e → offer_in (members_of e) ≡ parts_of e
-offer_in-members_of laws e h =
+pub parts_in-members_of : Laws → (e : EventValue) → IsEvent e → parts_in (members_of e) ≡ parts_of e
+parts_in-members_of laws e h =
     let plain = plain_all e.attributes (laws.names e h) in
     let ms = direct e.attributes in
-    ap offer_in (laws.members e h)
+    ap parts_in (laws.members e h)
     ∙ ap₂ offer
     (ap spelled (attribute_members-with_content e.content ms ∙ attribute_members-direct e.attributes plain) ∙ spelled-direct e.attributes (laws.values e h))
     (offered_in-with_content e.content e.attributes h.carried plain)

@@ -13,7 +13,7 @@ use Rattle.attributes.specs.Event.{OfferValue}
 use Rattle.attributes.specs.declared.content.Offered.{Offered}
 use Rattle.attributes.specs.declared.scalar.Given.{Given}
 use Rattle.event_json.specs.Payload.{tree_name, bytes_name, is_payload, attribute_members, unless_null, payload}
-use Rattle.event_json.specs.Spelling.{spelled, offer_in}
+use Rattle.event_json.specs.Spelling.{spelled, parts_in}
 use Rattle.event_json.proofs.SpellingLemmas.{Entry}
 use Rattle.event_json.proofs.PayloadNameLemmas.{tree_is_payload, bytes_is_payload, is_payload-same, is_payload-neither, not_bytes-tree, is_eq-names}
 
@@ -89,7 +89,7 @@ offer members offered = record { members = members; offered = offered }
 -- es without the one is first, and first without the other is last
 pub offer-taken : (es first last : List Entry) (tree coded : Option Value) → first ≡ remove_entry (is_named tree_name) es → last ≡ remove_entry (is_named bytes_name) first
     → tree ≡ lookup (is_named tree_name) es → coded ≡ lookup (is_named bytes_name) first → lookup (is_named tree_name) first ≡ None → lookup (is_named bytes_name) last ≡ None
-    → offer (spelled (members_view last)) (payload (unless_null (option_map view tree)) (unless_null (option_map view coded))) ≡ offer_in (members_view es)
+    → offer (spelled (members_view last)) (payload (unless_null (option_map view tree)) (unless_null (option_map view coded))) ≡ parts_in (members_view es)
 offer-taken es first last tree coded is_first is_last is_tree is_coded no_tree no_bytes =
     let without_tree : HasNo tree_name last = subst (HasNo tree_name) (sym is_last) (HasNo-remove tree_name bytes_name first (HasNo-lookup tree_name first no_tree)) in
     let plain : attributes_in last ≡ members_view last = attributes-all last without_tree (HasNo-lookup bytes_name last no_bytes) in

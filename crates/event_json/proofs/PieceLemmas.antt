@@ -8,11 +8,11 @@ use Rattle.serde_json.specs.Data.{Data, array, Items, no_items, item}
 use Rattle.serde_json.specs.Read.{read}
 use Rattle.serde_json.specs.View.{view, items_view}
 use Rattle.serde_json.specs.declared.value.Value.{Value}
-use Rattle.array_texts.specs.Arrays.{append_items, AreSome}
+use Rattle.array_texts.specs.Arrays.{append_items, HasItems}
 use Rattle.array_texts.proofs.Joining.{join_texts}
 use Rattle.event_json.specs.Spelling.{list_of}
 use Rattle.event_json.specs.Parts.{HoldsSome}
-use Rattle.event_json.specs.steps.Pieces.{Adds, Gathers, GoesOn}
+use Rattle.event_json.specs.steps.Pieces.{AddsMembers, Gathers, GoesOn}
 use Rattle.event_json.proofs.WalkLemmas.{list_of-items_view}
 
 -- ---- UTF-8
@@ -42,7 +42,7 @@ list_of-append_items : (xs ys : Items) → list_of (append_items xs ys) ≡ list
 list_of-append_items no_items ys = refl
 list_of-append_items (item d xs) ys = ap (λ l. d ∷ l) (list_of-append_items xs ys)
 
-some_append : (xs ys : Items) → AreSome xs → AreSome (append_items xs ys)
+some_append : (xs ys : Items) → HasItems xs → HasItems (append_items xs ys)
 some_append no_items ys h = absurd h
 some_append (item d xs) ys h = tt
 
@@ -57,7 +57,7 @@ join_held f t ds es a b =
     }
 
 -- what is gathered of a front, once more members stand behind it
-join : (f t : List ℕ) (P Q : List Data → Type 0) → Gathers (f ++ 93 ∷ []) P → Adds (91 ∷ t) P Q → Gathers (f ++ 44 ∷ t) Q
+join : (f t : List ℕ) (P Q : List Data → Type 0) → Gathers (f ++ 93 ∷ []) P → AddsMembers (91 ∷ t) P Q → Gathers (f ++ 44 ∷ t) Q
 join f t P Q a b =
     record {
       members = a.members ++ b.members;
@@ -67,11 +67,11 @@ join f t P Q a b =
 
 -- ---- one piece
 
-some_view : (vs : List Value) → vs ≢ [] → AreSome (items_view vs)
+some_view : (vs : List Value) → vs ≢ [] → HasItems (items_view vs)
 some_view [] h = absurd (h refl)
 some_view (v ∷ vs) h = tt
 
-pub piece : (b : List ℕ) (vs : List Value) (P Q : List Data → Type 0) → vs ≢ [] → IsUtf8 b → read b ≡ Some (array (items_view vs)) → GoesOn P Q (map view vs) → Adds b P Q
+pub piece : (b : List ℕ) (vs : List Value) (P Q : List Data → Type 0) → vs ≢ [] → IsUtf8 b → read b ≡ Some (array (items_view vs)) → GoesOn P Q (map view vs) → AddsMembers b P Q
 piece b vs P Q some utf8 reads goes_on =
     record {
       members = map view vs;
@@ -96,25 +96,25 @@ cut_piece b i j h le =
 -- ---- a piece more
 
 -- a piece joins what stands before a comma
-grown : (o f t b : List ℕ) (P Q : List Data → Type 0) → Gathers (o ++ (f ++ 93 ∷ [])) P → Adds (91 ∷ t) P Q → f ++ 44 ∷ t ≡ b → Gathers (o ++ b) Q
+grown : (o f t b : List ℕ) (P Q : List Data → Type 0) → Gathers (o ++ (f ++ 93 ∷ [])) P → AddsMembers (91 ∷ t) P Q → f ++ 44 ∷ t ≡ b → Gathers (o ++ b) Q
 grown o f t b P Q old a is =
     subst (λ x. Gathers x Q) (append_assoc o f (44 ∷ t) ∙ ap (λ x. o ++ x) is)
     (join (o ++ f) t P Q (subst (λ x. Gathers x P) (sym (append_assoc o f (93 ∷ []))) old) a)
 
-pub next_piece : (b o : List ℕ) (i j : ℕ) (text : List ℕ) (P Q : List Data → Type 0) → slice_get b i ≡ Some 44 → i + 1 ≤ j → text ≡ 91 ∷ (slice_range b (i + 1) j ++ 93 ∷ []) → Gathers (o ++ (take i b ++ 93 ∷ [])) P → Adds text P Q
+pub next_piece : (b o : List ℕ) (i j : ℕ) (text : List ℕ) (P Q : List Data → Type 0) → slice_get b i ≡ Some 44 → i + 1 ≤ j → text ≡ 91 ∷ (slice_range b (i + 1) j ++ 93 ∷ []) → Gathers (o ++ (take i b ++ 93 ∷ [])) P → AddsMembers text P Q
     → Gathers (o ++ (take j b ++ 93 ∷ [])) Q
 next_piece b o i j text P Q h le is old a =
-    grown o (take i b) (slice_range b (i + 1) j ++ 93 ∷ []) (take j b ++ 93 ∷ []) P Q old (subst (λ t. Adds t P Q) is a)
+    grown o (take i b) (slice_range b (i + 1) j ++ 93 ∷ []) (take j b ++ 93 ∷ []) P Q old (subst (λ t. AddsMembers t P Q) is a)
     (sym (append_assoc (take i b) (44 ∷ slice_range b (i + 1) j) (93 ∷ [])) ∙ ap (λ t. t ++ 93 ∷ []) (cut_piece b i j h le))
 
-pub last_piece : (b o c : List ℕ) (i : ℕ) (text : List ℕ) (P Q : List Data → Type 0) → slice_get b i ≡ Some 44 → text ≡ 91 ∷ (slice_range b (i + 1) (length b) ++ c) → Gathers (o ++ (take i b ++ 93 ∷ [])) P → Adds text P Q
+pub last_piece : (b o c : List ℕ) (i : ℕ) (text : List ℕ) (P Q : List Data → Type 0) → slice_get b i ≡ Some 44 → text ≡ 91 ∷ (slice_range b (i + 1) (length b) ++ c) → Gathers (o ++ (take i b ++ 93 ∷ [])) P → AddsMembers text P Q
     → Gathers (o ++ (b ++ c)) Q
 last_piece b o c i text P Q h is old a =
-    grown o (take i b) (drop (i + 1) b ++ c) (b ++ c) P Q old (subst (λ t. Adds t P Q) (is ∙ ap (λ t. 91 ∷ (t ++ c)) (take_rest b (i + 1))) a)
+    grown o (take i b) (drop (i + 1) b ++ c) (b ++ c) P Q old (subst (λ t. AddsMembers t P Q) (is ∙ ap (λ t. 91 ∷ (t ++ c)) (take_rest b (i + 1))) a)
     (sym (append_assoc (take i b) (44 ∷ drop (i + 1) b) c) ∙ ap (λ t. t ++ c) (cut_rest b i h))
 
 -- the first piece
-pub first_piece : (text : List ℕ) (P Q : List Data → Type 0) → P [] → Adds text P Q → Gathers text Q
+pub first_piece : (text : List ℕ) (P Q : List Data → Type 0) → P [] → AddsMembers text P Q → Gathers text Q
 first_piece text P Q p a = record { members = a.members; holds = a.holds; is = a.goes_on [] p }
 
 pub of_some : {A : Type 0} (P : A → Type 0) (o : Option A) (a : A) → o ≡ Some a → IfSome o P → P a

@@ -12,7 +12,7 @@ use Rattle.attributes.specs.declared.fault.Fault.TheVariants.{TooLarge}
 use Rattle.event_json.specs.Spelling.{event_in}
 use Rattle.event_json.specs.Reading.{Reads}
 use Rattle.event_json.proofs.BatchTextLemmas.{PartsMakeEvents}
-use Rattle.event_json.proofs.PartsLemmas.{offer_in-members_of}
+use Rattle.event_json.proofs.PartsLemmas.{parts_in-members_of}
 use Rattle.event_json.proofs.Laws.{Laws}
 
 none_last : (a b c : Option Fault) → option_or a (option_or b c) ≡ None → c ≡ None
@@ -34,14 +34,14 @@ fits again e h =
 pub Reads-text : Laws → PartsMakeEvents → ((e : EventValue) → IsEvent e → read (text e) ≡ Some (object (members_of e))) → (e : EventValue) → IsEvent e → Reads (text e) (e ∷ [])
 Reads-text laws again reads e h =
     let small : length (text e) ≤ 262144 = fits again e h in
-    let event : e ≡ event_in (object (members_of e)) = sym (ap event_of (offer_in-members_of laws e h) ∙ again e h) in
+    let event : e ≡ event_in (object (members_of e)) = sym (ap event_of (parts_in-members_of laws e h) ∙ again e h) in
     record {
       value = object (members_of e);
       is_text = record { fits = omega (arith, small); is_json = (h.utf8, reads e h) };
       spells = record {
         found = object (members_of e) ∷ [];
         are_found = refl;
-        faultless = (ap fault (offer_in-members_of laws e h) ∙ h.faultless, tt);
+        faultless = (ap fault (parts_in-members_of laws e h) ∙ h.faultless, tt);
         are_events = ap (λ (x : EventValue). x ∷ []) event;
       };
     }

@@ -24,8 +24,8 @@ number_fault e = fault_unless e (number_of e)
 
 -- the first fault of what is to be an event with a number: the reader's, and only where there is
 -- none that of its number
-abbrev pub member_fault : Data → Option Fault
-member_fault d = option_or (fault_in d) (number_fault (event_in d))
+abbrev pub fault_of_numbered : Data → Option Fault
+fault_of_numbered d = option_or (fault_in d) (number_fault (event_in d))
 
 -- a member at fault: its place from 0, its first fault, and the value that it is
 pub record FaultyMember : Type 0 where
@@ -45,7 +45,7 @@ with_fault i d (Some f) others = record { index = i; fault = f; tree = d } ∷ o
 -- those that have a fault, in their order, where the first of all stands at i
 abbrev pub faulty : ℕ → List Data → List FaultyMember
 faulty i [] = []
-faulty i (d ∷ ds) = with_fault i d (member_fault d) (faulty (suc i) ds)
+faulty i (d ∷ ds) = with_fault i d (fault_of_numbered d) (faulty (suc i) ds)
 
 -- the bytes are the JSON text of an object, or of an array, and these are the faulty ones of it, or
 -- of its members

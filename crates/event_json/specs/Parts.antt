@@ -3,7 +3,7 @@
 use Rattle.std.specs.Prelude.{◌≡◌, ◌≤◌, ◌+◌, ℕ, Bool, true, false, if◌then◌else◌, List, [], ◌∷◌, ◌++◌, length, map, take, slice_get, slice_range, Some, IsUtf8}
 use Rattle.serde_json.specs.Data.{Data, Items, array}
 use Rattle.serde_json.specs.Read.{read}
-use Rattle.array_texts.specs.Arrays.{AreSome}
+use Rattle.array_texts.specs.Arrays.{HasItems}
 use Rattle.attributes.specs.Event.{EventValue}
 use Rattle.event_json.specs.Spelling.{event_in, list_of}
 use Rattle.event_json.specs.Reading.{AreFaultless, Reads, max_input}
@@ -13,7 +13,7 @@ pub record HoldsSome (b : List ℕ) (ds : List Data) : Type 0 where
   pub items : Items
   pub utf8 : IsUtf8 b
   pub reads : read b ≡ Some (array items)
-  pub some : AreSome items
+  pub some : HasItems items
   pub are : ds ≡ list_of items
 
 -- the bytes are the text of an array of events without fault, one at least
@@ -29,8 +29,8 @@ part_text opened b closed =
     (if opened then [] else 91 ∷ []) ++ (b ++ (if closed then [] else 93 ∷ []))
 
 -- two parts that a comma joins spell the events of both
-abbrev pub PartsJoin : Type 0
-PartsJoin = (b : List ℕ) (opened closed : Bool) (i : ℕ) (l m : List EventValue)
+abbrev pub PartsSpellBoth : Type 0
+PartsSpellBoth = (b : List ℕ) (opened closed : Bool) (i : ℕ) (l m : List EventValue)
     → slice_get b i ≡ Some 44 → SpellsSome (part_text opened (take i b) false) l
     → SpellsSome (part_text false (slice_range b (i + 1) (length b)) closed) m
     → SpellsSome (part_text opened b closed) (l ++ m)

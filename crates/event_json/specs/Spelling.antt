@@ -34,12 +34,12 @@ spelled no_members = []
 spelled (member k d ms) = with_given k (given_in d) (spelled ms)
 
 -- the parts that an object's members spell
-abbrev pub offer_in : Members → OfferValue
-offer_in ms = record { members = spelled (attribute_members ms); offered = offered_in ms }
+abbrev pub parts_in : Members → OfferValue
+parts_in ms = record { members = spelled (attribute_members ms); offered = offered_in ms }
 
 -- the first fault of what is to be an event; what is no object has no version
 abbrev pub fault_in : Data → Option Fault
-fault_in (object ms) = fault (offer_in ms)
+fault_in (object ms) = fault (parts_in ms)
 fault_in _ = Some SpecVersion
 
 -- the members of an object
@@ -49,7 +49,7 @@ members_in _ = no_members
 
 -- the event that an object without fault spells
 abbrev pub event_in : Data → EventValue
-event_in d = event_of (offer_in (members_in d))
+event_in d = event_of (parts_in (members_in d))
 
 -- the members of an array
 abbrev pub list_of : Items → List Data

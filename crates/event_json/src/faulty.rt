@@ -6,7 +6,7 @@ ghost use Rattle.serde_json.specs.Data.{Data};
 ghost use Rattle.serde_json.specs.View.{view};
 ghost use Rattle.event_json.specs.Spelling.{candidates};
 ghost use Rattle.event_json.specs.Reading.{max_input};
-ghost use Rattle.event_json.specs.Faulty.{RefusesWhole, TellsFaulty, faulty, member_fault, member_of, number_fault};
+ghost use Rattle.event_json.specs.Faulty.{RefusesWhole, TellsFaulty, faulty, fault_of_numbered, member_of, number_fault};
 ghost use Rattle.event_json.specs.steps.FaultyMembers.{AreFaultyOf, HasMembers};
 ghost use Rattle.event_json.specs.steps.Told.{AllAreNone, IsNoMember};
 
@@ -151,7 +151,7 @@ fn members(alloc: Global, value: Value) -> Result<Vec<Value>, ReadFault>
 
 /// The first fault of each, where it has one. Each tree is given back as soon as it was read.
 fn faults_of(alloc: Global, trees: Vec<Value>) -> Result<Vec<Option<Fault>>, AllocError>
-    ensures { IfOk result (λ faults. faults.items ≡ map member_fault (map view trees.items)) }
+    ensures { IfOk result (λ faults. faults.items ≡ map fault_of_numbered (map view trees.items)) }
 {
     let mut faults = Vec::new(alloc);
     for tree in trees {
@@ -162,7 +162,7 @@ fn faults_of(alloc: Global, trees: Vec<Value>) -> Result<Vec<Option<Fault>>, All
 
 /// The first fault of a member.
 fn member_fault(alloc: Global, tree: Value) -> Result<Option<Fault>, AllocError>
-    ensures { IfOk result (λ fault. fault ≡ member_fault (view tree)) }
+    ensures { IfOk result (λ fault. fault ≡ fault_of_numbered (view tree)) }
 {
     match read_item(alloc, tree) {
         Ok(event) => Ok(number_fault(event)),
@@ -201,7 +201,7 @@ fn tell(
     told: &mut Vec<Faulty>,
 ) -> Result<(), AllocError>
     requires { first + length trees.items < 2 ^ 64 }
-    ensures { faults.items ≡ map member_fault (map view trees.items)
+    ensures { faults.items ≡ map fault_of_numbered (map view trees.items)
         → OnOk result (map member_of told.new.items
         ≡ map member_of told.old.items ++ faulty first (map view trees.items)) }
 {

@@ -4,7 +4,7 @@ ghost use Rattle.serde_json.specs.Data.{Data, array};
 ghost use Rattle.serde_json.specs.Read.{read};
 ghost use Rattle.serde_json.specs.View.{items_view, view};
 ghost use Rattle.event_json.specs.Parts.{part_text};
-ghost use Rattle.event_json.specs.steps.Pieces.{Adds, Gathers, GoesOn};
+ghost use Rattle.event_json.specs.steps.Pieces.{AddsMembers, Gathers, GoesOn};
 
 use serde_json::{Category, Value};
 use std::alloc::{AllocError, Global};
@@ -117,7 +117,7 @@ fn add_piece<G: Gather + Drop>(
     gathered: G,
 ) -> Result<Option<G>, AllocError>
     ensures { IfOk result (λ o. IfSome o (λ more.
-        Adds text.now (G.is_of gathered) (G.is_of more))) }
+        AddsMembers text.now (G.is_of gathered) (G.is_of more))) }
 {
     let Some(members) = items_of(alloc, text)? else {
         return Ok(None);

@@ -8,10 +8,10 @@ ghost use Rattle.serde_json.specs.View.{view, number_view, members_view};
 ghost use Rattle.attributes.specs.Event.{EventValue};
 ghost use Rattle.attributes.specs.JsonText.{IsJsonText};
 ghost use Rattle.event_json.specs.Payload.{unless_null, payload, bytes_in, decoded};
-ghost use Rattle.event_json.specs.Spelling.{given_whole, given_in, spelled, offer_in, fault_in, event_in};
+ghost use Rattle.event_json.specs.Spelling.{given_whole, given_in, spelled, parts_in, fault_in, event_in};
 ghost use Rattle.event_json.specs.Reading.{Spells, IsNoSpelling, Reads, Refuses, max_input};
-ghost use Rattle.event_json.specs.Parts.{PartsJoin, SpellsSome, WholesRead, part_text};
-ghost use Rattle.event_json.specs.steps.Outcome.{IsOutcome, ok_of, result_of};
+ghost use Rattle.event_json.specs.Parts.{PartsSpellBoth, SpellsSome, WholesRead, part_text};
+ghost use Rattle.event_json.specs.steps.Outcome.{IsReadingOutcome, ok_of, result_of};
 ghost use Rattle.event_json.specs.steps.Walk.{bad, bad_or, first_bad};
 
 use crate::fault::ReadFault;
@@ -75,7 +75,7 @@ pub fn read_part_events(
 /// Parts of a batch that were read, with a comma between them, are what they are together: for
 /// readers that read parts side by side.
 pub fn batch_parts_join()
-    ensures join { PartsJoin }
+    ensures join { PartsSpellBoth }
     ensures whole { WholesRead }
 {}
 
@@ -91,7 +91,7 @@ struct Outcome {
 impl Outcome {
     /// That of no members.
     fn empty(alloc: Global) -> Outcome
-        ensures { IsOutcome result [] }
+        ensures { IsReadingOutcome result [] }
     {
         Outcome {
             events: Events::empty(alloc),
@@ -121,7 +121,7 @@ impl Outcome {
 }
 
 impl Gather for Outcome {
-    ghost is_of = { IsOutcome };
+    ghost is_of = { IsReadingOutcome };
 
     fn add(self, alloc: Global, _text: &[u8], members: Vec<Value>) -> Result<Outcome, AllocError> {
         let Outcome {
@@ -268,7 +268,7 @@ fn read_event(alloc: Global, members: Map<String, Value>) -> Result<Event, Fault
 /// The parts that an object's members spell. The payload members are taken out first, so that
 /// their values are moved and not copied.
 fn event_parts(alloc: Global, mut members: Map<String, Value>) -> Result<Parts, AllocError>
-    ensures { IfOk result (λ p. p ≡ offer_in (members_view members.entries)) }
+    ensures { IfOk result (λ p. p ≡ parts_in (members_view members.entries)) }
 {
     let tree = members.remove("data");
     let coded = members.remove("data_base64");

@@ -17,9 +17,9 @@ use Rattle.inbox.specs.Sets.{set_of, union}
 use Rattle.exchange.specs.declared.world.Hosted.{Hosted}
 use Rattle.exchange.specs.declared.step.Step.{Step}
 use Rattle.exchange.specs.Place.{Place, gains, nothing, place_at}
-use Rattle.site.specs.Arrival.{LacksAt}
-use Rattle.exchange.specs.Schedule.{FitsIn, IsShortOfNext, after, after_part, world_after}
-use Rattle.exchange.specs.Standing.{Stands, StandsFor}
+use Rattle.site.specs.Arrival.{LacksArrivalAt}
+use Rattle.exchange.specs.Schedule.{FitsIn, IsShortOfNext, places_after, after_part, world_after}
+use Rattle.exchange.specs.Standing.{StandAtPlaces, IsHostOf}
 use Rattle.exchange.specs.steps.Given.{Gives, GivesTo, after_made, site_at}
 use Rattle.exchange.proofs.TransferLemmas.{add_all-append, length-append_new}
 
@@ -81,21 +81,21 @@ once-append_new sets A (x ∷ xs) h =
     ] refl
 
 -- a running site stands for the place of its number
-pub stands_there : (hosts : List Hosted) (w : List Place) (i : ℕ) (h : Hosted) → Stands hosts w → slice_get hosts i ≡ Some h → StandsFor h (place_at w i)
-stands_there hosts w i h s e = subst (λ x. StandsFor x (place_at w i)) (get_or_from_slice_get hosts i h h e) (all_zip_at StandsFor hosts w i h nothing s (slice_get_within hosts i h e))
+pub stands_there : (hosts : List Hosted) (w : List Place) (i : ℕ) (h : Hosted) → StandAtPlaces hosts w → slice_get hosts i ≡ Some h → IsHostOf h (place_at w i)
+stands_there hosts w i h s e = subst (λ x. IsHostOf x (place_at w i)) (get_or_from_slice_get hosts i h h e) (all_zip_at IsHostOf hosts w i h nothing s (slice_get_within hosts i h e))
 
-pub stands_at : (hosts : List Hosted) (w : List Place) (i : ℕ) (h : Hosted) → Stands hosts w → i < length hosts → h ≡ get_or hosts i h → StandsFor h (place_at w i)
-stands_at hosts w i h s l e = subst (λ x. StandsFor x (place_at w i)) (sym e) (all_zip_at StandsFor hosts w i h nothing s l)
+pub stands_at : (hosts : List Hosted) (w : List Place) (i : ℕ) (h : Hosted) → StandAtPlaces hosts w → i < length hosts → h ≡ get_or hosts i h → IsHostOf h (place_at w i)
+stands_at hosts w i h s l e = subst (λ x. IsHostOf x (place_at w i)) (sym e) (all_zip_at IsHostOf hosts w i h nothing s l)
 
-pub site_taken : (hosts : List Hosted) (w : List Place) (i : ℕ) → Stands hosts w → i < length hosts → set_of (site_at hosts i) ≡ (place_at w i).taken
-site_taken hosts w i s l = let one = all_zip_at StandsFor hosts w i (record { site = []; kept = 0 }) nothing s l in one.taken
+pub site_taken : (hosts : List Hosted) (w : List Place) (i : ℕ) → StandAtPlaces hosts w → i < length hosts → set_of (site_at hosts i) ≡ (place_at w i).taken
+site_taken hosts w i s l = let one = all_zip_at IsHostOf hosts w i (record { site = []; kept = 0 }) nothing s l in one.taken
 
 -- a site that takes events
-pub gives_stands : SetLaws → (old new : List Hosted) (w : List Place) (i : ℕ) (L : List EventValue) → GivesTo old new i L → Stands old w → Stands new (gains w i L)
+pub gives_stands : SetLaws → (old new : List Hosted) (w : List Place) (i : ℕ) (L : List EventValue) → GivesTo old new i L → StandAtPlaces old w → StandAtPlaces new (gains w i L)
 gives_stands sets old new w i L g s =
     let one = stands_there old w i g.host s g.there in
     let host : Hosted = record { site = g.site; kept = g.host.kept } in
-    subst (λ n. Stands n (gains w i L)) (sym g.changed) (all_zip_set StandsFor old w i host (record (place_at w i) { taken = union (place_at w i).taken L }) s (record {
+    subst (λ n. StandAtPlaces n (gains w i L)) (sym g.changed) (all_zip_set IsHostOf old w i host (record (place_at w i) { taken = union (place_at w i).taken L }) s (record {
       taken = g.set ∙ ap (λ E. union E L) one.taken;
       kept = ap (λ l. set_of (take g.host.kept l)) g.arrivals ∙ ap set_of (take-append_new key_cmp g.host.kept g.host.site L one.within) ∙ one.kept;
       mark = one.mark;
@@ -104,10 +104,10 @@ gives_stands sets old new w i L g s =
     }))
 
 -- a step by which a site takes events, or a part of them
-pub makes : SetLaws → (old new : List Hosted) (w : List Place) (step : Step) (i : ℕ) (L : List EventValue) → after step w ≡ gains w i L → ((n : ℕ) → after_part n step w ≡ gains w i (take n L))
-    → (r : Result (Unit {0}) ℕ) → Gives old new i L r → Stands old w → Stands new (after_made r step w)
-makes sets old new w step i L whole part (Ok _) g s = subst (Stands new) (sym whole) (gives_stands sets old new w i L g s)
-makes sets old new w step i L whole part (Err n) g s = subst (Stands new) (sym (part n)) (gives_stands sets old new w i (take n L) g s)
+pub makes : SetLaws → (old new : List Hosted) (w : List Place) (step : Step) (i : ℕ) (L : List EventValue) → places_after step w ≡ gains w i L → ((n : ℕ) → after_part n step w ≡ gains w i (take n L))
+    → (r : Result (Unit {0}) ℕ) → Gives old new i L r → StandAtPlaces old w → StandAtPlaces new (after_made r step w)
+makes sets old new w step i L whole part (Ok _) g s = subst (StandAtPlaces new) (sym whole) (gives_stands sets old new w i L g s)
+makes sets old new w step i L whole part (Err n) g s = subst (StandAtPlaces new) (sym (part n)) (gives_stands sets old new w i (take n L) g s)
 
 -- a site that is taken out and put back with events
 given_twice : (hosts : List Hosted) (to : ℕ) (h again : Hosted) (empty site L : List EventValue) → to < length hosts → h ≡ get_or hosts to h → again ≡ get_or (set hosts to (record { site = empty; kept = h.kept })) to again
@@ -153,11 +153,11 @@ between hosts from to n h giver empty taken long from_in to_in others is is_give
     }
 
 -- a flush
-pub flush_at : (hosts : List Hosted) (w : List Place) (i : ℕ) (h : Hosted) (n : ℕ) → i < length hosts → h ≡ get_or hosts i h → n ≡ length h.site → Stands hosts w
-    → Stands (set hosts i (record { site = h.site; kept = n })) (set w i (record (place_at w i) { kept = (place_at w i).taken }))
+pub flush_at : (hosts : List Hosted) (w : List Place) (i : ℕ) (h : Hosted) (n : ℕ) → i < length hosts → h ≡ get_or hosts i h → n ≡ length h.site → StandAtPlaces hosts w
+    → StandAtPlaces (set hosts i (record { site = h.site; kept = n })) (set w i (record (place_at w i) { kept = (place_at w i).taken }))
 flush_at hosts w i h n l e is s =
     let one = stands_at hosts w i h s l e in
-    all_zip_set StandsFor hosts w i (record { site = h.site; kept = n }) (record (place_at w i) { kept = (place_at w i).taken }) s (record {
+    all_zip_set IsHostOf hosts w i (record { site = h.site; kept = n }) (record (place_at w i) { kept = (place_at w i).taken }) s (record {
       taken = one.taken;
       kept = ap set_of (take_all n h.site (omega (arith, is))) ∙ one.taken;
       mark = is ∙ sym one.once ∙ ap length one.taken;
@@ -167,14 +167,14 @@ flush_at hosts w i h n l e is s =
 
 -- a restart
 pub restart_at : SetLaws → (hosts : List Hosted) (w : List Place) (i : ℕ) (h : Hosted) (again : List EventValue) → i < length hosts → h ≡ get_or hosts i h
-    → again ≡ append_new key_cmp [] (take h.kept h.site) → set_of again ≡ set_of (take h.kept h.site) → Stands hosts w
-    → Stands (set hosts i (record { site = again; kept = h.kept })) (set w i (record (place_at w i) { taken = (place_at w i).kept }))
+    → again ≡ append_new key_cmp [] (take h.kept h.site) → set_of again ≡ set_of (take h.kept h.site) → StandAtPlaces hosts w
+    → StandAtPlaces (set hosts i (record { site = again; kept = h.kept })) (set w i (record (place_at w i) { taken = (place_at w i).kept }))
 restart_at sets hosts w i h again l e is same s =
     let one = stands_at hosts w i h s l e in
     let once : length (set_of again) ≡ length again = subst (λ x. length (set_of x) ≡ length x) (sym is) (once-append_new sets [] (take h.kept h.site) refl) in
     let set_is : set_of again ≡ (place_at w i).kept = same ∙ one.kept in
     let long : length again ≡ h.kept = sym once ∙ ap length set_is ∙ sym one.mark in
-    all_zip_set StandsFor hosts w i (record { site = again; kept = h.kept }) (record (place_at w i) { taken = (place_at w i).kept }) s (record {
+    all_zip_set IsHostOf hosts w i (record { site = again; kept = h.kept }) (record (place_at w i) { taken = (place_at w i).kept }) s (record {
       taken = set_is;
       kept = ap set_of (take_all h.kept again (omega (arith, long))) ∙ set_is;
       mark = one.mark;
@@ -183,17 +183,17 @@ restart_at sets hosts w i h again l e is same s =
     })
 
 -- a site that takes what changes nothing
-pub same_stands : (hosts : List Hosted) (w : List Place) (i : ℕ) (L : List EventValue) → (i < length hosts → union (place_at w i).taken L ≡ (place_at w i).taken) → Stands hosts w → Stands hosts (gains w i L)
+pub same_stands : (hosts : List Hosted) (w : List Place) (i : ℕ) (L : List EventValue) → (i < length hosts → union (place_at w i).taken L ≡ (place_at w i).taken) → StandAtPlaces hosts w → StandAtPlaces hosts (gains w i L)
 same_stands hosts w i L same s =
-    all_zip_set_right StandsFor hosts w i (record { site = []; kept = 0 }) (record (place_at w i) { taken = union (place_at w i).taken L }) s
-    (λ l. subst (λ E. StandsFor (get_or hosts i (record { site = []; kept = 0 })) (record (place_at w i) { taken = E })) (sym (same l)) (all_zip_at StandsFor hosts w i (record { site = []; kept = 0 }) nothing s l))
+    all_zip_set_right IsHostOf hosts w i (record { site = []; kept = 0 }) (record (place_at w i) { taken = union (place_at w i).taken L }) s
+    (λ l. subst (λ E. IsHostOf (get_or hosts i (record { site = []; kept = 0 })) (record (place_at w i) { taken = E })) (sym (same l)) (all_zip_at IsHostOf hosts w i (record { site = []; kept = 0 }) nothing s l))
 
 world_after-append : (xs ys : List Step) (w : List Place) → world_after (xs ++ ys) w ≡ world_after ys (world_after xs w)
 world_after-append [] ys w = refl
-world_after-append (x ∷ xs) ys w = world_after-append xs ys (after x w)
+world_after-append (x ∷ xs) ys w = world_after-append xs ys (places_after x w)
 
--- the world after one step more
-pub world_after-next : (steps : List Step) (i : ℕ) (x : Step) (w : List Place) → slice_get steps i ≡ Some x → world_after (take (i + 1) steps) w ≡ after x (world_after (take i steps) w)
+-- the world places_after one step more
+pub world_after-next : (steps : List Step) (i : ℕ) (x : Step) (w : List Place) → slice_get steps i ≡ Some x → world_after (take (i + 1) steps) w ≡ places_after x (world_after (take i steps) w)
 world_after-next steps i x w h =
     ap (λ l. world_after l w) (take_more steps i x (slice_get_within steps i x h) ∙ ap (λ z. take i steps ++ z ∷ []) (get_or_from_slice_get steps i x x h)) ∙ world_after-append (take i steps) (x ∷ []) w
 
@@ -203,17 +203,17 @@ fits_at n [] i step a h = absurd (cc)
 fits_at n (x ∷ xs) zero step a h = let same : x ≡ step = cc in subst (FitsIn n) same a.0
 fits_at n (x ∷ xs) (suc i) step a h = fits_at n xs i step a.1 h
 
-pub starts_stand : StandsFor (record { site = []; kept = 0 }) nothing
+pub starts_stand : IsHostOf (record { site = []; kept = 0 }) nothing
 starts_stand = record { taken = refl; kept = refl; mark = refl; within = omega arith; once = refl }
 
-pub stands_length : (hosts : List Hosted) (w : List Place) → Stands hosts w → length hosts ≡ length w
+pub stands_length : (hosts : List Hosted) (w : List Place) → StandAtPlaces hosts w → length hosts ≡ length w
 stands_length [] [] s = refl
 stands_length [] (p ∷ ps) s = absurd s
 stands_length (h ∷ hs) [] s = absurd s
 stands_length (h ∷ hs) (p ∷ ps) s = ap suc (stands_length hs ps s.1)
 
--- memory was wanted for an event that a site hasn't, after it took the first ones
-pub short_of_next : SetLaws → (new E L : List EventValue) (n : ℕ) → n < length L → set_of new ≡ union E (take n L) → LacksAt new L n → IsShortOfNext E n L
+-- memory was wanted for an event that a site hasn't, places_after it took the first ones
+pub short_of_next : SetLaws → (new E L : List EventValue) (n : ℕ) → n < length L → set_of new ≡ union E (take n L) → LacksArrivalAt new L n → IsShortOfNext E n L
 short_of_next sets new E L n less is lacks = (less, λ e h. ap (λ F. has key_cmp F e) (sym is) ∙ sets.members new e ∙ lacks e h)
 
 -- what holds of an error by two clauses

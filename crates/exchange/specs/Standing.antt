@@ -3,13 +3,13 @@ use Rattle.std.specs.Prelude.{◌≡◌, ◌≢◌, ◌≤◌, ◌⊎◌, ℕ, L
 use Rattle.std.specs.List.{AllZip}
 use Rattle.inbox.specs.Sets.{set_of}
 use Rattle.exchange.specs.Place.{Place, start}
-use Rattle.exchange.specs.Schedule.{StopsAt, after_part, world_after}
+use Rattle.exchange.specs.Schedule.{MayStopAt, after_part, world_after}
 use Rattle.exchange.specs.declared.step.Step.{Step}
 use Rattle.exchange.specs.declared.world.Hosted.{Hosted}
 
 -- a running site has the sets of its place: what it took, and what outlasts a restart, of which the
 -- mark is the size; nothing stands twice among its arrivals
-pub record StandsFor (host : Hosted) (place : Place) : Type 0 where
+pub record IsHostOf (host : Hosted) (place : Place) : Type 0 where
   pub taken : set_of host.site ≡ place.taken
   pub kept : set_of (take host.kept host.site) ≡ place.kept
   pub mark : host.kept ≡ length place.kept
@@ -17,16 +17,16 @@ pub record StandsFor (host : Hosted) (place : Place) : Type 0 where
   pub once : length (set_of host.site) ≡ length host.site
 
 -- each running site has the sets of its place
-abbrev pub Stands : List Hosted → List Place → Type 0
-Stands hosts w = AllZip StandsFor hosts w
+abbrev pub StandAtPlaces : List Hosted → List Place → Type 0
+StandAtPlaces hosts w = AllZip IsHostOf hosts w
 
 -- a run from the places w that was stopped in a step: so many were done, and the next one was
 -- stopped after its first events
 abbrev pub StoppedIn : List Place → List Step → List Hosted → ℕ → ℕ → Type 0
 StoppedIn w steps hosts done part =
     (step : Step) × (slice_get steps done ≡ Some step)
-    × StopsAt part step (world_after (take done steps) w)
-    × Stands hosts (after_part part step (world_after (take done steps) w))
+    × MayStopAt part step (world_after (take done steps) w)
+    × StandAtPlaces hosts (after_part part step (world_after (take done steps) w))
 
 -- a run of n sites that was stopped: the list of sites couldn't be made, of which there was to be
 -- one at least; or in a step

@@ -7,8 +7,8 @@ ghost use Rattle.inbox.specs.Ordered.{append_new};
 ghost use Rattle.inbox.specs.Sets.{set_of};
 ghost use Rattle.exchange.specs.Lacking.{lacking};
 ghost use Rattle.exchange.specs.Place.{Place, start};
-ghost use Rattle.exchange.specs.Schedule.{FitsIn, IsCutShort, IsShortOfNext, StopsAt, world_after};
-ghost use Rattle.exchange.specs.Standing.{Stands, StoppedAt, StoppedIn};
+ghost use Rattle.exchange.specs.Schedule.{FitsIn, IsCutShort, IsShortOfNext, MayStopAt, world_after};
+ghost use Rattle.exchange.specs.Standing.{StandAtPlaces, StoppedAt, StoppedIn};
 ghost use Rattle.exchange.specs.steps.Given.{Gives, after_made, site_at};
 
 use crate::step::{Step, Steps};
@@ -122,10 +122,10 @@ fn restarted(alloc: Global, host: &Hosted) -> Result<Site, AllocError>
 fn make_step(alloc: Global, hosts: &mut Vec<Hosted>, step: &Step) -> Result<(), u64>
     requires { FitsIn (vec_len hosts.old) step.now }
     ensures sites { vec_len hosts.new ≡ vec_len hosts.old }
-    ensures made { (w : List Place) → Stands hosts.old.items w
-        → Stands hosts.new.items (after_made result step.now w) }
-    ensures stops { IfErr result (λ part. (w : List Place) → Stands hosts.old.items w
-        → StopsAt part step.now w) }
+    ensures made { (w : List Place) → StandAtPlaces hosts.old.items w
+        → StandAtPlaces hosts.new.items (after_made result step.now w) }
+    ensures stops { IfErr result (λ part. (w : List Place) → StandAtPlaces hosts.old.items w
+        → MayStopAt part step.now w) }
 {
     // A site keeps each event once, and what it has already adds nothing.
     sets_are_members();
@@ -161,7 +161,7 @@ fn make_step(alloc: Global, hosts: &mut Vec<Hosted>, step: &Step) -> Result<(), 
 
 /// So many sites that have nothing.
 fn empty_sites(alloc: Global, sites: u32) -> Result<Vec<Hosted>, AllocError>
-    ensures ok { IfOk result (λ hosts. Stands hosts.items (start sites)) }
+    ensures ok { IfOk result (λ hosts. StandAtPlaces hosts.items (start sites)) }
     ensures err { OnErr result (sites ≢ 0) }
 {
     let mut hosts = Vec::new(alloc);
@@ -178,9 +178,9 @@ fn empty_sites(alloc: Global, sites: u32) -> Result<Vec<Hosted>, AllocError>
 fn run_steps(alloc: Global, hosts: &mut Vec<Hosted>, steps: &Steps) -> Result<(), Stop>
     requires { AllByRecursion (FitsIn (vec_len hosts.old)) steps.now }
     ensures sites { vec_len hosts.new ≡ vec_len hosts.old }
-    ensures done { OnOk result ((w : List Place) → Stands hosts.old.items w
-        → Stands hosts.new.items (world_after steps.now w)) }
-    ensures stopped { IfErr result (λ s. (w : List Place) → Stands hosts.old.items w
+    ensures done { OnOk result ((w : List Place) → StandAtPlaces hosts.old.items w
+        → StandAtPlaces hosts.new.items (world_after steps.now w)) }
+    ensures stopped { IfErr result (λ s. (w : List Place) → StandAtPlaces hosts.old.items w
         → StoppedIn w steps.now hosts.new.items s.done s.part) }
 {
     for done in 0..steps.len() {
@@ -195,7 +195,7 @@ impl World {
     /// So many sites that have nothing. `AllocError` where there is no memory for the list of them,
     /// of which there is to be one at least.
     pub fn begin(alloc: Global, sites: u32) -> Result<World, AllocError>
-        ensures ok { IfOk result (λ world. Stands world (start sites)) }
+        ensures ok { IfOk result (λ world. StandAtPlaces world (start sites)) }
         ensures err { OnErr result (sites ≢ 0) }
     {
         let hosts = empty_sites(alloc, sites)?;
@@ -207,9 +207,9 @@ impl World {
     pub fn run(&mut self, alloc: Global, steps: &Steps) -> Result<(), Stop>
         requires { AllByRecursion (FitsIn (length self.old)) steps.now }
         ensures sites { length self.new ≡ length self.old }
-        ensures done { OnOk result ((w : List Place) → Stands self.old w
-            → Stands self.new (world_after steps.now w)) }
-        ensures stopped { IfErr result (λ s. (w : List Place) → Stands self.old w
+        ensures done { OnOk result ((w : List Place) → StandAtPlaces self.old w
+            → StandAtPlaces self.new (world_after steps.now w)) }
+        ensures stopped { IfErr result (λ s. (w : List Place) → StandAtPlaces self.old w
             → StoppedIn w steps.now self.new s.done s.part) }
     {
         run_steps(alloc, &mut self.hosts, steps)
@@ -222,7 +222,7 @@ impl World {
 /// `World::run` tell the two apart.
 pub fn run(alloc: Global, sites: u32, steps: &Steps) -> Result<World, Stopped>
     requires { AllByRecursion (FitsIn sites) steps.now }
-    ensures done { IfOk result (λ world. Stands world (world_after steps.now (start sites))) }
+    ensures done { IfOk result (λ world. StandAtPlaces world (world_after steps.now (start sites))) }
     ensures stopped { IfErr result (λ s. StoppedAt sites steps.now s.world s.done s.part) }
 {
     let Ok(mut world) = World::begin(alloc, sites) else {

@@ -4,11 +4,11 @@ ghost use Rattle.std.specs.Prelude.{◌≡◌, ◌≢◌, ◌+◌, ◌<◌, ◌�
 ghost use Rattle.inbox.specs.KeyOrder.{key_cmp};
 ghost use Rattle.inbox.specs.Ordered.{append_new};
 ghost use Rattle.inbox.specs.Sets.{set_of, union};
-ghost use Rattle.site.specs.Arrival.{Brings, LacksAt};
+ghost use Rattle.site.specs.Arrival.{Brings, LacksArrivalAt};
 ghost use Rattle.site.specs.Delta.{AreAll, Tells, delta, lacking_of};
 ghost use Rattle.exchange.specs.Lacking.{lacking};
 ghost use Rattle.exchange.specs.Schedule.{IsCutShort};
-ghost use Rattle.exchange.specs.steps.Moved.{Moves};
+ghost use Rattle.exchange.specs.steps.Moved.{MovesOn};
 
 use coverage::Summary;
 use coverage::laws::summaries_stand_for_sets;
@@ -36,7 +36,7 @@ fn move_part(
     requires place { place ≤ length (set_of from.now) }
     requires tells { Tells (set_of from.now) peer.now own.now }
     requires all { IfSome among.now (AreAll (set_of from.now) peer.now) }
-    ensures { Moves (set_of from.now) peer.now place
+    ensures { MovesOn (set_of from.now) peer.now place
         (lacking_of (set_of from.now) peer.now (drop place (set_of from.now)))
         to.old to.new result }
 {
@@ -131,7 +131,7 @@ pub fn scrub(from: &Site, to: &mut Site) -> Result<Counts, Short>
     ensures short_taken { IfErr result (λ s. s.taken < length (set_of from.now)) }
 
     // Memory was wanted for a new event.
-    ensures short_of_new { IfErr result (λ s. LacksAt to.new (set_of from.now) s.taken) }
+    ensures short_of_new { IfErr result (λ s. LacksArrivalAt to.new (set_of from.now) s.taken) }
 {
     to.merge(from)
 }

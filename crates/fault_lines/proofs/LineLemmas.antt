@@ -3,15 +3,15 @@ use Rattle.std.proofs.Common.{◌≡◌, ℕ, List, [], ◌∷◌, ◌++◌, Opt
 use Rattle.std.specs.Fmt.{decimal}
 use Rattle.serde_json.specs.Data.{Data}
 use Rattle.serde_json.specs.Find.{get}
-use Rattle.fault_lines.specs.Lines.{attribute_members, string_text, value_member}
+use Rattle.fault_lines.specs.Lines.{attribute_and_value, string_text, value_member}
 
 -- the text of the attribute of this name, where the value found is shown as that
 pub attribute_step : (name text value : List ℕ) (o : Option (List ℕ)) (v : Option Data) (tree : Data) → Some name ≡ o → text ≡ string_text name → value ≡ value_member v → v ≡ get name tree
-    → codes ",\"attribute\":" ++ (text ++ value) ≡ attribute_members o tree
+    → codes ",\"attribute\":" ++ (text ++ value) ≡ attribute_and_value o tree
 attribute_step name text value o v tree is_o is_text is_value is_v =
     ap (λ t. codes ",\"attribute\":" ++ (t ++ value)) is_text
     ∙ ap (λ x. codes ",\"attribute\":" ++ (string_text name ++ x)) (is_value ∙ ap value_member is_v)
-    ∙ ap (λ p. attribute_members p tree) is_o
+    ∙ ap (λ p. attribute_and_value p tree) is_o
 
 -- a line of these parts
 abbrev pub line_of : List ℕ → ℕ → List ℕ → List ℕ → List ℕ → List ℕ → List ℕ

@@ -9,10 +9,10 @@ use Rattle.attributes.specs.Sequence.{number_of}
 use Rattle.attributes.specs.declared.fault.Fault.{Fault}
 use Rattle.event_json.specs.Spelling.{event_in, fault_in}
 use Rattle.event_json.specs.Reading.{AreFaultless}
-use Rattle.event_json.specs.Faulty.{FaultyMember, fault_unless, faulty, member_fault, number_fault, with_fault}
+use Rattle.event_json.specs.Faulty.{FaultyMember, fault_unless, faulty, fault_of_numbered, number_fault, with_fault}
 use Rattle.event_json.specs.declared.fault.ReadFault.{ReadFault}
-use Rattle.fault_lines.specs.Lines.{IsFaultText, TellsMembers, file_line, member_lines, string_text}
-use Rattle.fault_lines.specs.Quiet.{AreNumbered, IsGood}
+use Rattle.fault_lines.specs.Lines.{IsFaultText, TellsMembers, whole_file_line, member_lines, string_text}
+use Rattle.fault_lines.specs.Quiet.{HaveAllNumbers, IsGood}
 
 -- ---- a member that isn't told
 
@@ -37,7 +37,7 @@ untold i d (Some f) rest h = absurd (cc)
 faultless : (i : ℕ) (ds : List Data) → faulty i ds ≡ [] → AreFaultless ds
 faultless i [] h = tt
 faultless i (d ∷ ds) h =
-    let here = untold i d (member_fault d) (faulty (suc i) ds) h in
+    let here = untold i d (fault_of_numbered d) (faulty (suc i) ds) h in
     ((neither (fault_in d) (number_fault (event_in d)) here.0).0, faultless (suc i) ds here.1)
 
 all_and : (b c : Bool) → b ≡ true → c ≡ true → (b && c) ≡ true
@@ -51,21 +51,21 @@ rest_of : (b c : Bool) → (b && c) ≡ true → c ≡ true
 rest_of true c h = h
 rest_of false c h = absurd (cc)
 
-all_numbered : (i : ℕ) (ds : List Data) → faulty i ds ≡ [] → AreNumbered (map event_in ds)
+all_numbered : (i : ℕ) (ds : List Data) → faulty i ds ≡ [] → HaveAllNumbers (map event_in ds)
 all_numbered i [] h = refl
 all_numbered i (d ∷ ds) h =
-    let here = untold i d (member_fault d) (faulty (suc i) ds) h in
+    let here = untold i d (fault_of_numbered d) (faulty (suc i) ds) h in
     let e = event_in d in
     all_and (is_some (number_of e)) (list_all (λ e. is_some (number_of e)) (map event_in ds))
     (numbered e (number_of e) (neither (fault_in d) (number_fault e) here.0).1) (all_numbered (suc i) ds here.1)
 
-none_told : (i : ℕ) (ds : List Data) → AreFaultless ds → AreNumbered (map event_in ds) → faulty i ds ≡ []
+none_told : (i : ℕ) (ds : List Data) → AreFaultless ds → HaveAllNumbers (map event_in ds) → faulty i ds ≡ []
 none_told i [] h k = refl
 none_told i (d ∷ ds) h k =
     let e = event_in d in
     let first = first_of (is_some (number_of e)) (list_all (λ e. is_some (number_of e)) (map event_in ds)) k in
     let rest = rest_of (is_some (number_of e)) (list_all (λ e. is_some (number_of e)) (map event_in ds)) k in
-    let none : member_fault d ≡ None = ap (λ f. option_or f (number_fault e)) h.0 ∙ unfaulted e (number_of e) first in
+    let none : fault_of_numbered d ≡ None = ap (λ f. option_or f (number_fault e)) h.0 ∙ unfaulted e (number_of e) first in
     ap (λ o. with_fault i d o (faulty (suc i) ds)) none ∙ none_told (suc i) ds h.1 rest
 
 -- ---- the text
@@ -87,7 +87,7 @@ of_members name b t =
       all_numbered 0 t.1.found none,
     )
 
-some_said : (file : List ℕ) (why : ReadFault) → [] ≡ file_line file why → ⊥
+some_said : (file : List ℕ) (why : ReadFault) → [] ≡ whole_file_line file why → ⊥
 some_said file why h = cc
 
 pub quiet : (name b : List ℕ) → IsFaultText name b [] → IsGood b
@@ -97,7 +97,7 @@ quiet name b (inr t) = absurd (some_said (string_text name) t.0 t.2)
 pub good : (name b : List ℕ) → IsGood b → IsFaultText name b []
 good name b g =
     let found = g.1.spells.found in
-    let are : AreNumbered (map event_in found) = subst AreNumbered g.1.spells.are_events g.2 in
+    let are : HaveAllNumbers (map event_in found) = subst HaveAllNumbers g.1.spells.are_events g.2 in
     inl (
       [],
       record {

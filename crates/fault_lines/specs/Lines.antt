@@ -18,13 +18,13 @@ abbrev pub string_text : List ℕ → List ℕ
 string_text words = compact_text (string words)
 
 -- null, a truth value, a text, or a whole number of 64 bits
-abbrev pub is_plain : Data → Bool
-is_plain null = true
-is_plain (boolean b) = true
-is_plain (number n) = not (is_float n)
-is_plain (string s) = true
-is_plain (array ds) = false
-is_plain (object ms) = false
+abbrev pub is_plain_value : Data → Bool
+is_plain_value null = true
+is_plain_value (boolean b) = true
+is_plain_value (number n) = not (is_float n)
+is_plain_value (string s) = true
+is_plain_value (array ds) = false
+is_plain_value (object ms) = false
 
 -- a text of at most 200 bytes, as the member `value`; a longer one is left out
 abbrev pub if_short : List ℕ → List ℕ
@@ -33,12 +33,12 @@ if_short text = if nat_le (length text) 200 then codes ",\"value\":" ++ text els
 -- the member `value` of a plain value, where it is short
 abbrev pub value_member : Option Data → List ℕ
 value_member None = []
-value_member (Some d) = if is_plain d then if_short (compact_text d) else []
+value_member (Some d) = if is_plain_value d then if_short (compact_text d) else []
 
 -- the members `attribute` and `value`, where the fault is of a member of this name
-abbrev pub attribute_members : Option (List ℕ) → Data → List ℕ
-attribute_members None tree = []
-attribute_members (Some name) tree =
+abbrev pub attribute_and_value : Option (List ℕ) → Data → List ℕ
+attribute_and_value None tree = []
+attribute_and_value (Some name) tree =
     codes ",\"attribute\":" ++ (string_text name ++ value_member (get name tree))
 
 -- the member `pointer`, where a number of the data is at fault: where in the event it stands
@@ -54,7 +54,7 @@ place_at_fault why tree = None
 -- the members that tell where in an event a fault is
 abbrev pub where_members : Fault → Data → List ℕ
 where_members why tree =
-    attribute_members (member_at_fault why tree) tree ++ pointer_member (place_at_fault why tree)
+    attribute_and_value (member_at_fault why tree) tree ++ pointer_member (place_at_fault why tree)
 
 -- the member `id`, where there is one
 abbrev pub id_member : Option (List ℕ) → List ℕ
@@ -62,14 +62,14 @@ id_member None = []
 id_member (Some id) = codes ",\"id\":" ++ string_text id
 
 -- the id of a member, where it is a text
-abbrev pub id_of : Data → Option (List ℕ)
-id_of tree = option_and_then as_str (get (codes "id") tree)
+abbrev pub id_of_member : Data → Option (List ℕ)
+id_of_member tree = option_and_then as_str (get (codes "id") tree)
 
 -- the line of a member at fault, where this is the file's name as a JSON string
 abbrev pub member_line : List ℕ → FaultyMember → List ℕ
 member_line file m =
     codes "{\"file\":" ++ (file ++ (codes ",\"index\":" ++ (decimal m.index
-    ++ (id_member (id_of m.tree) ++ (codes ",\"fault\":\"" ++ (fault_name m.fault ++ (codes "\""
+    ++ (id_member (id_of_member m.tree) ++ (codes ",\"fault\":\"" ++ (fault_name m.fault ++ (codes "\""
     ++ (where_members m.fault m.tree
     ++ (codes ",\"hint\":\"" ++ (hint m.fault ++ (codes "\"}" ++ 10 ∷ [])))))))))))
 
@@ -85,8 +85,8 @@ line_with file words hint =
     ++ (codes "\",\"hint\":\"" ++ (hint ++ (codes "\"}" ++ 10 ∷ []))))))
 
 -- so it is where it is refused for this
-abbrev pub file_line : List ℕ → ReadFault → List ℕ
-file_line file why = line_with file (whole_words why) (whole_hint why)
+abbrev pub whole_file_line : List ℕ → ReadFault → List ℕ
+whole_file_line file why = line_with file (whole_words why) (whole_hint why)
 
 -- the bytes are an event or a batch, and the text has a line for each member at fault
 abbrev pub TellsMembers : List ℕ → List ℕ → List ℕ → Type 0
@@ -96,7 +96,7 @@ TellsMembers name b text = (told : List FaultyMember) × TellsFaulty b told
 -- the bytes are refused as a whole, and the text is the line that says why
 abbrev pub TellsWhole : List ℕ → List ℕ → List ℕ → Type 0
 TellsWhole name b text = (why : ReadFault) × RefusesWhole b why
-    × (text ≡ file_line (string_text name) why)
+    × (text ≡ whole_file_line (string_text name) why)
 
 -- what is said of the file of that name and these bytes
 abbrev pub IsFaultText : List ℕ → List ℕ → List ℕ → Type 0

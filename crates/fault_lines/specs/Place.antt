@@ -13,8 +13,8 @@ abbrev pub key_char : ℕ → List ℕ
 key_char c = if c == 126 then 126 ∷ 48 ∷ [] else if c == 47 then 126 ∷ 49 ∷ [] else encode_utf8 c
 
 -- a name within a pointer
-abbrev pub key_text : List ℕ → List ℕ
-key_text name = flat_map key_char (chars name)
+abbrev pub name_in_pointer : List ℕ → List ℕ
+name_in_pointer name = flat_map key_char (chars name)
 
 -- the place in a value: of an array's items the first that has one, of an object's members the first
 -- in the order of their names
@@ -34,4 +34,4 @@ abbrev mutual
 
   pub members_place : Members → Option (List ℕ)
   members_place no_members = None
-  members_place (member name d ms) = option_or (option_map (λ rest. 47 ∷ (key_text name ++ rest)) (place d)) (members_place ms)
+  members_place (member name d ms) = option_or (option_map (λ rest. 47 ∷ (name_in_pointer name ++ rest)) (place d)) (members_place ms)

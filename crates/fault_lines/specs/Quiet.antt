@@ -6,9 +6,9 @@ use Rattle.attributes.specs.Sequence.{number_of}
 use Rattle.event_json.specs.Reading.{Reads}
 
 -- each event has a number
-abbrev pub AreNumbered : List EventValue → Type 0
-AreNumbered events = list_all (λ e. is_some (number_of e)) events ≡ true
+abbrev pub HaveAllNumbers : List EventValue → Type 0
+HaveAllNumbers events = list_all (λ e. is_some (number_of e)) events ≡ true
 
 -- the bytes spell events that all have numbers
 abbrev pub IsGood : List ℕ → Type 0
-IsGood b = (events : List EventValue) × Reads b events × AreNumbered events
+IsGood b = (events : List EventValue) × Reads b events × HaveAllNumbers events

@@ -6,7 +6,7 @@ ghost use Rattle.serde_json.specs.View.{view};
 ghost use Rattle.serde_json.specs.Written.{has_float};
 ghost use Rattle.event_json.specs.Faulty.{member_of};
 ghost use Rattle.fault_lines.specs.Member.{member_at_fault};
-ghost use Rattle.fault_lines.specs.Lines.{IsFaultText, attribute_members, file_line, id_member, id_of, if_short, is_plain, line_with, member_line, member_lines, place_at_fault, pointer_member, string_text, value_member, where_members};
+ghost use Rattle.fault_lines.specs.Lines.{IsFaultText, attribute_and_value, whole_file_line, id_member, id_of_member, if_short, is_plain_value, line_with, member_line, member_lines, place_at_fault, pointer_member, string_text, value_member, where_members};
 
 use crate::member::member_at_fault;
 use crate::place::place;
@@ -57,7 +57,7 @@ pub fn whole_line(alloc: Global, name: &Text, words: &str, hint: &str) -> Result
 
 /// The line of a file that is refused as a whole.
 fn file_line(alloc: Global, file: &str, fault: ReadFault) -> Result<String, AllocError>
-    ensures { IfOk result (λ text. string_bytes text ≡ file_line file.now fault) }
+    ensures { IfOk result (λ text. string_bytes text ≡ whole_file_line file.now fault) }
 {
     line_with(alloc, file, whole_words(fault), whole_hint(fault))
 }
@@ -104,7 +104,7 @@ fn member_line(alloc: Global, file: &str, member: &Faulty) -> Result<String, All
 
 /// The id of a member, where it is a text.
 fn id_of(tree: &Value) -> Option<&str>
-    ensures { option_copied result ≡ id_of (view tree.now) }
+    ensures { option_copied result ≡ id_of_member (view tree.now) }
 {
     match tree.get("id") {
         Some(id) => id.as_str(),
@@ -138,7 +138,7 @@ fn where_members(alloc: Global, fault: Fault, tree: &Value) -> Result<String, Al
 /// The members `attribute` and `value` of a fault of one member.
 fn attribute_members(alloc: Global, fault: Fault, tree: &Value) -> Result<String, AllocError>
     ensures { IfOk result (λ text. string_bytes text
-        ≡ attribute_members (member_at_fault fault (view tree.now)) (view tree.now)) }
+        ≡ attribute_and_value (member_at_fault fault (view tree.now)) (view tree.now)) }
 {
     match member_at_fault(fault, tree) {
         Some(name) => {
@@ -201,7 +201,7 @@ fn plain_member(alloc: Global, value: &Value) -> Result<String, AllocError>
 
 /// Whether a value is null, a truth value, a text, or a whole number of 64 bits.
 fn is_plain(value: &Value) -> bool
-    ensures plain { result ≡ is_plain (view value.now) }
+    ensures plain { result ≡ is_plain_value (view value.now) }
     ensures whole { result ≡ true → has_float (view value.now) ≡ false }
 {
     match value {

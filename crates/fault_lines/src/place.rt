@@ -2,7 +2,7 @@
 
 ghost use Rattle.std.specs.Prelude.{◌≡◌, ◌++◌, IfOk, OnOk, option_map, string_bytes};
 ghost use Rattle.serde_json.specs.View.{items_view, members_view, view};
-ghost use Rattle.fault_lines.specs.Place.{items_place, key_char, key_text, members_place, place};
+ghost use Rattle.fault_lines.specs.Place.{items_place, key_char, name_in_pointer, members_place, place};
 
 use serde_json::{Map, Value};
 use std::alloc::{AllocError, Global};
@@ -59,7 +59,7 @@ fn members_place(alloc: Global, members: &Map<String, Value>) -> Result<Option<S
 
 /// A name within a pointer.
 fn key_text(alloc: Global, name: &str) -> Result<String, AllocError>
-    ensures { IfOk result (λ key. string_bytes key ≡ key_text name.now) }
+    ensures { IfOk result (λ key. string_bytes key ≡ name_in_pointer name.now) }
 {
     let mut key = String::new(alloc);
     for c in name.chars() {

@@ -9,7 +9,7 @@ use Rattle.site.specs.declared.call.Reply.{Reply}
 use Rattle.site.specs.declared.call.Reply.TheVariants.{Answered, Paged, Refused, Summed, Took}
 use Rattle.site.specs.declared.desk.DeskFault.{DeskFault}
 use Rattle.site.specs.declared.desk.DeskFault.TheVariants as desk
-use Rattle.feeds.specs.Report.{AreAnswered, EndsEarly, EndsRefused, HasCause, HasCauseIf, IsRefused}
+use Rattle.feeds.specs.Report.{AreAnswered, EndsEarly, EndsRefused, HasCause, HasCauseIf, IsRefusedReply}
 use Rattle.feeds.specs.declared.report.WorkerEnd.{WorkerEnd}
 use Rattle.feeds.specs.declared.report.WorkerEnd.TheVariants.{BadInput, Done, GateShut, OutOfMemory}
 use Rattle.feeds.specs.steps.Tally.{StopsBy}
@@ -28,10 +28,10 @@ refused_behind m n h e = record {
 }
 
 -- the last call alone was refused
-pub last_refused : (c : Call) → IsRefused c.reply → EndsRefused (c ∷ [])
+pub last_refused : (c : Call) → IsRefusedReply c.reply → EndsRefused (c ∷ [])
 last_refused c r = record { before = []; last = c; calls = refl; answered = tt; refused = r }
 
-pub refused_fault : (fault : DeskFault) → IsRefused (refused fault)
+pub refused_fault : (fault : DeskFault) → IsRefusedReply (refused fault)
 refused_fault (desk.OutOfMemory taken fresh) = tt
 
 pub early_by : (m : List Call) (e : WorkerEnd) → StopsBy m (Some e) → EndsEarly e

@@ -8,7 +8,7 @@ use Rattle.site.specs.Gate.{LetsThrough}
 use Rattle.event_json.specs.declared.fault.ReadFault.{ReadFault}
 use Rattle.event_json.specs.declared.fault.ReadFault.TheVariants as read
 use Rattle.feeds.specs.Gate.{IsGated}
-use Rattle.feeds.specs.Report.{end_of, unread}
+use Rattle.feeds.specs.Report.{end_if_unread, unread}
 use Rattle.feeds.specs.declared.report.Report.{Report}
 use Rattle.feeds.specs.declared.report.WorkerEnd.{WorkerEnd}
 use Rattle.feeds.specs.declared.report.WorkerEnd.TheVariants.{GateShut}
@@ -102,7 +102,7 @@ module _ {lets shuts heard : ℕ → ℕ → Type 0} {worker : ℕ} where
   gated_by g on wide = record { through = g.through; counts = λ none. absurd (on none); shut = λ s. absurd (wide s) }
 
 -- an input that wasn't read shuts no gate
-unread_open : (fault : ReadFault) → end_of fault ≡ GateShut → ⊥
+unread_open : (fault : ReadFault) → end_if_unread fault ≡ GateShut → ⊥
 unread_open read.OutOfMemory s = absurd (cc)
 unread_open read.NotJson s = absurd (cc)
 unread_open read.NotEvent s = absurd (cc)

@@ -18,14 +18,14 @@ use Rattle.site.specs.declared.call.Reply.{Reply}
 use Rattle.site.specs.declared.call.Reply.TheVariants.{Answered, Paged, Refused, Summed, Took}
 use Rattle.site.specs.declared.desk.DeskFault.{DeskFault}
 use Rattle.site.specs.declared.desk.DeskFault.TheVariants as desk
-use Rattle.feeds.specs.Pull.{ArePages, Brings, EndsEmpty, Holds, IsUnbegun, Pulled, Pulls, events_in, replied}
-use Rattle.feeds.specs.Report.{AreAnswered, EndsEarly, Handles, HasCause, HasCauseIf, IsRefused, handled, reported}
+use Rattle.feeds.specs.Pull.{ArePages, BringsLacking, EndsEmpty, HoldsEach, IsPullUnbegun, Pulled, Pulls, events_in, replied}
+use Rattle.feeds.specs.Report.{AreAnswered, EndsEarly, Handles, HasCause, HasCauseIf, IsRefusedReply, handled, reported}
 use Rattle.feeds.specs.declared.report.WorkerEnd.{WorkerEnd}
 use Rattle.feeds.specs.declared.report.WorkerEnd.TheVariants.{BadInput, Done, GateShut, OutOfMemory}
 use Rattle.feeds.specs.declared.report.Report.{Report}
 use Rattle.feeds.specs.declared.report.Tally.{Tally}
-use Rattle.feeds.specs.steps.Pull.{HasSameCounts, Moves, Pages, Pulling, Sums}
-use Rattle.feeds.specs.steps.Tally.{Flushed, Gains}
+use Rattle.feeds.specs.steps.Pull.{HasSameCounts, MovesPage, Pages, Pulling, SumsUp}
+use Rattle.feeds.specs.steps.Tally.{Flushed, ComesBehindOthers}
 use Rattle.feeds.proofs.CauseLemmas.{answered-append, answered_if, cause_behind, cause_if, early_if, last_refused, refused_fault}
 use Rattle.feeds.proofs.TallyLemmas.{empty_is, fresh-append, handled-append, repeated-append, takes-append}
 
@@ -58,22 +58,22 @@ there : ((A : List EventValue) (e : EventValue) → Contains A e → has key_cmp
 there is_found A x true h = h
 there is_found A x false h = has_last is_found A x
 
-holds_taken : ((A : List EventValue) (e : EventValue) → Contains A e → has key_cmp A e ≡ true) → (A L : List EventValue) → Holds (append_new key_cmp A L) L
+holds_taken : ((A : List EventValue) (e : EventValue) → Contains A e → has key_cmp A e ≡ true) → (A L : List EventValue) → HoldsEach (append_new key_cmp A L) L
 holds_taken is_found A [] = tt
 holds_taken is_found A (x ∷ xs) = let B : List EventValue = if has key_cmp A x then A else A ++ x ∷ [] in
     (keeps_having B xs x (there is_found A x (has key_cmp A x) refl), holds_taken is_found B xs)
 
-pub holds_on : (A B L : List EventValue) → ((e : EventValue) → has key_cmp A e ≡ true → has key_cmp B e ≡ true) → Holds A L → Holds B L
+pub holds_on : (A B L : List EventValue) → ((e : EventValue) → has key_cmp A e ≡ true → has key_cmp B e ≡ true) → HoldsEach A L → HoldsEach B L
 holds_on A B [] more h = tt
 holds_on A B (x ∷ xs) more h = (more x h.0, holds_on A B xs more h.1)
 
-holds-append : (A L M : List EventValue) → Holds A L → Holds A M → Holds A (L ++ M)
+holds-append : (A L M : List EventValue) → HoldsEach A L → HoldsEach A M → HoldsEach A (L ++ M)
 holds-append A [] M h k = k
 holds-append A (x ∷ xs) M h k = (h.0, holds-append A xs M h.1 k)
 
-pub holds_more : ((A : List EventValue) (e : EventValue) → Contains A e → has key_cmp A e ≡ true) → (A L M B : List EventValue) → Holds A L → Gains A M B → Holds B (L ++ M)
+pub holds_more : ((A : List EventValue) (e : EventValue) → Contains A e → has key_cmp A e ≡ true) → (A L M B : List EventValue) → HoldsEach A L → ComesBehindOthers A M B → HoldsEach B (L ++ M)
 holds_more is_found A L M B h gains = let C : List EventValue = append_new key_cmp (A ++ gains.0) M in
-    subst (λ Z. Holds Z (L ++ M)) (sym gains.1) (holds-append C L M
+    subst (λ Z. HoldsEach Z (L ++ M)) (sym gains.1) (holds-append C L M
     (holds_on A C L (λ e had. keeps_having (A ++ gains.0) M e (still_has A gains.0 e had)) h)
     (holds_taken is_found (A ++ gains.0) M))
 
@@ -81,11 +81,11 @@ replied-append : (m n : List Call) → replied (m ++ n) ≡ replied m ++ replied
 replied-append [] n = refl
 replied-append (c ∷ cs) n = ap (λ z. events_in c.reply ++ z) (replied-append cs n) ∙ sym (append_assoc (events_in c.reply) (replied cs) (replied n))
 
-pub holds_replied : (B : List EventValue) (m n : List Call) → Holds B (replied m ++ replied n) → Holds B (replied (m ++ n))
-holds_replied B m n h = subst (λ z. Holds B z) (sym (replied-append m n)) h
+pub holds_replied : (B : List EventValue) (m n : List Call) → HoldsEach B (replied m ++ replied n) → HoldsEach B (replied (m ++ n))
+holds_replied B m n h = subst (λ z. HoldsEach B z) (sym (replied-append m n)) h
 
-pub holds_still : (A B : List EventValue) (m n : List Call) → Holds A (replied m) → B ≡ A → replied n ≡ [] → Holds B (replied (m ++ n))
-holds_still A B m n h same none = subst (λ z. Holds B z) (sym (replied-append m n ∙ ap (λ z. replied m ++ z) none ∙ append-nil (replied m))) (subst (λ Z. Holds Z (replied m)) (sym same) h)
+pub holds_still : (A B : List EventValue) (m n : List Call) → HoldsEach A (replied m) → B ≡ A → replied n ≡ [] → HoldsEach B (replied (m ++ n))
+holds_still A B m n h same none = subst (λ z. HoldsEach B z) (sym (replied-append m n ∙ ap (λ z. replied m ++ z) none ∙ append-nil (replied m))) (subst (λ Z. HoldsEach Z (replied m)) (sym same) h)
 
 pages-append : (peer : Sources) (p : ℕ) (m n : List Call) → ArePages peer p m → ArePages peer (p + length (replied m)) n → ArePages peer p (m ++ n)
 pages-append peer p [] n h k = subst (λ z. ArePages peer z n) (omega arith) k
@@ -104,7 +104,7 @@ ends-append [] n h = h
 ends-append (c ∷ cs) n h = ends-cons c (cs ++ n) (ends-append cs n h)
 
 -- no page was got
-moved_nothing : (peer : Sources) (m : List Call) (t u : Tally) (ended : WorkerEnd) → EndsEarly ended → HasCause m ended → ArePages peer (t.fresh + t.repeated) m → replied m ≡ [] → HasSameCounts t u → Moves peer m [] t u (Some ended)
+moved_nothing : (peer : Sources) (m : List Call) (t u : Tally) (ended : WorkerEnd) → EndsEarly ended → HasCause m ended → ArePages peer (t.fresh + t.repeated) m → replied m ≡ [] → HasSameCounts t u → MovesPage peer m [] t u (Some ended)
 moved_nothing peer m t u ended early cause pages none same = record {
   pages = pages;
   handles = record { takes = tt; rest = []; order = sym none };
@@ -119,17 +119,17 @@ moved_nothing peer m t u ended early cause pages none same = record {
 no_events : (fault : DeskFault) → events_in (refused fault) ≡ []
 no_events (desk.OutOfMemory taken fresh) = refl
 
-pub moved_not : (peer : Sources) (m : List Call) (t u : Tally) (ended : WorkerEnd) → Pages peer (t.fresh + t.repeated) m (Err ended) → HasSameCounts t u → Moves peer m [] t u (Some ended)
-moved_not peer m t u GateShut none same = subst (λ z. Moves peer z [] t u (Some GateShut)) (sym none) (moved_nothing peer [] t u GateShut tt (inl tt) tt refl same)
-moved_not peer m t u OutOfMemory (fault, one) same = let c : Call = call (command.DeltaPage peer (t.fresh + t.repeated) 100) (refused fault) in subst (λ z. Moves peer z [] t u (Some OutOfMemory)) (sym one)
+pub moved_not : (peer : Sources) (m : List Call) (t u : Tally) (ended : WorkerEnd) → Pages peer (t.fresh + t.repeated) m (Err ended) → HasSameCounts t u → MovesPage peer m [] t u (Some ended)
+moved_not peer m t u GateShut none same = subst (λ z. MovesPage peer z [] t u (Some GateShut)) (sym none) (moved_nothing peer [] t u GateShut tt (inl tt) tt refl same)
+moved_not peer m t u OutOfMemory (fault, one) same = let c : Call = call (command.DeltaPage peer (t.fresh + t.repeated) 100) (refused fault) in subst (λ z. MovesPage peer z [] t u (Some OutOfMemory)) (sym one)
     (moved_nothing peer (c ∷ []) t u OutOfMemory tt (inr (last_refused c (refused_fault fault), refl)) (refl, tt) (append-nil (events_in (refused fault)) ∙ no_events fault) same)
 moved_not peer m t u Done never same = absurd never
 moved_not peer m t u (BadInput f) never same = absurd never
 
 -- the page was empty
-pub moved_last : (peer : Sources) (m : List Call) (t u : Tally) (L : List EventValue) → Pages peer (t.fresh + t.repeated) m (Ok L) → length L ≡ 0 → HasSameCounts t u → Moves peer m [] t u (Some Done)
+pub moved_last : (peer : Sources) (m : List Call) (t u : Tally) (L : List EventValue) → Pages peer (t.fresh + t.repeated) m (Ok L) → length L ≡ 0 → HasSameCounts t u → MovesPage peer m [] t u (Some Done)
 moved_last peer m t u (x ∷ xs) page empty same = absurd (omega (arith, empty))
-moved_last peer m t u [] page empty same = subst (λ z. Moves peer z [] t u (Some Done)) (sym page.0) (record {
+moved_last peer m t u [] page empty same = subst (λ z. MovesPage peer z [] t u (Some Done)) (sym page.0) (record {
   pages = (refl, tt);
   handles = record { takes = tt; rest = []; order = refl };
   counted = record { fresh = omega (arith, same.0); repeated = omega (arith, same.1); refused = same.2; all = refl };
@@ -147,7 +147,7 @@ answered_page : (peer : Sources) (place : ℕ) (m : List Call) (L : List EventVa
 answered_page peer place m L page = subst (λ (z : List Call). AreAnswered z) (sym page.0) ((λ r. r), tt)
 
 -- the page was handed over
-pub moved : (peer : Sources) (m n : List Call) (t s u : Tally) (L left : List EventValue) (o : Option WorkerEnd) → Pages peer (t.fresh + t.repeated) m (Ok L) → HasSameCounts t s → Flushed n L left s u o → Moves peer m n t u o
+pub moved : (peer : Sources) (m n : List Call) (t s u : Tally) (L left : List EventValue) (o : Option WorkerEnd) → Pages peer (t.fresh + t.repeated) m (Ok L) → HasSameCounts t s → Flushed n L left s u o → MovesPage peer m n t u o
 moved peer m n t s u L left o page same f = let is = replied_page peer (t.fresh + t.repeated) m L page in let k = f.counted in record {
   pages = subst (λ z. ArePages peer (t.fresh + t.repeated) z) (sym page.0) (refl, tt);
   handles = subst (λ z. Handles n z) (sym is) f.handles;
@@ -166,10 +166,10 @@ pulling_start peer t is = record { pages = tt; takes = tt; order = refl; fresh =
 place_is : (peer : Sources) (m n : List Call) (t : Tally) → Pulling peer m n t → t.fresh + t.repeated ≡ length (replied m)
 place_is peer m n t p = omega (arith, p.fresh, p.repeated, p.all, ap length p.order)
 
-more_pages : (peer : Sources) (m n k l : List Call) (t u : Tally) (o : Option WorkerEnd) → Pulling peer m n t → Moves peer k l t u o → ArePages peer 0 (m ++ k)
+more_pages : (peer : Sources) (m n k l : List Call) (t u : Tally) (o : Option WorkerEnd) → Pulling peer m n t → MovesPage peer k l t u o → ArePages peer 0 (m ++ k)
 more_pages peer m n k l t u o p moves = pages-append peer 0 m k p.pages (subst (λ z. ArePages peer z k) (place_is peer m n t p ∙ omega arith) moves.pages)
 
-pub pulls_on : (peer : Sources) (m n k l : List Call) (t u : Tally) (o : Option WorkerEnd) → o ≡ None → Pulling peer m n t → Moves peer k l t u o → Pulling peer (m ++ k) (n ++ l) u
+pub pulls_on : (peer : Sources) (m n k l : List Call) (t u : Tally) (o : Option WorkerEnd) → o ≡ None → Pulling peer m n t → MovesPage peer k l t u o → Pulling peer (m ++ k) (n ++ l) u
 pulls_on peer m n k l t u o none p moves = let c = moves.counted in record {
   pages = more_pages peer m n k l t u o p moves;
   takes = takes-append n l p.takes moves.handles.takes;
@@ -185,11 +185,11 @@ pulls_on peer m n k l t u o none p moves = let c = moves.counted in record {
 }
 
 -- a page adds at most 100 to the counts
-pub counts_few : (peer : Sources) (k l : List Call) (t u : Tally) (o : Option WorkerEnd) → Moves peer k l t u o → u.fresh + u.repeated ≤ t.fresh + t.repeated + 100
+pub counts_few : (peer : Sources) (k l : List Call) (t u : Tally) (o : Option WorkerEnd) → MovesPage peer k l t u o → u.fresh + u.repeated ≤ t.fresh + t.repeated + 100
 counts_few peer k l t u o moves = let c = moves.counted in
     omega (arith, c.fresh, c.repeated, c.all, moves.most, ap length moves.handles.order, length-append (handled l) moves.handles.rest)
 
-pub pull_stops : (peer : Sources) (m n k l : List Call) (t u : Tally) (o : Option WorkerEnd) (ended : WorkerEnd) → o ≡ Some ended → Pulling peer m n t → Moves peer k l t u o → Pulled peer (m ++ k) (n ++ l) (reported u ended)
+pub pull_stops : (peer : Sources) (m n k l : List Call) (t u : Tally) (o : Option WorkerEnd) (ended : WorkerEnd) → o ≡ Some ended → Pulling peer m n t → MovesPage peer k l t u o → Pulled peer (m ++ k) (n ++ l) (reported u ended)
 pull_stops peer m n k l t u o ended is p moves = let c = moves.counted in let hs = moves.handles in record {
   pages = more_pages peer m n k l t u o p moves;
   handles = record {
@@ -224,25 +224,25 @@ pull_short peer m n t p = record {
   done = λ d. absurd (cc);
 }
 
-pub early_sum : (n : List Call) (ended : WorkerEnd) → Sums n (Err ended) → EndsEarly ended
+pub early_sum : (n : List Call) (ended : WorkerEnd) → SumsUp n (Err ended) → EndsEarly ended
 early_sum n OutOfMemory h = tt
 early_sum n GateShut h = tt
 early_sum n Done h = h
 early_sum n (BadInput f) h = absurd h
 
-asked_once : (n : List Call) (ended : WorkerEnd) → Sums n (Err ended) → ((ended ≡ GateShut) × (n ≡ [])) ⊎ ((ended ≡ OutOfMemory) × ((reply : Reply) × IsRefused reply × (n ≡ call command.Summary reply ∷ [])))
+asked_once : (n : List Call) (ended : WorkerEnd) → SumsUp n (Err ended) → ((ended ≡ GateShut) × (n ≡ [])) ⊎ ((ended ≡ OutOfMemory) × ((reply : Reply) × IsRefusedReply reply × (n ≡ call command.Summary reply ∷ [])))
 asked_once n OutOfMemory h = inr (refl, (refused h.0, refused_fault h.0, h.1))
 asked_once n GateShut h = inl (refl, h)
 asked_once n Done h = absurd h
 asked_once n (BadInput f) h = absurd h
 
-pub unbegun : (n : List Call) (t : Tally) (ended : WorkerEnd) (r : Report) → Sums n (Err ended)
-    → t ≡ record { calls = 0; fresh = 0; repeated = 0; refused = 0 } → r ≡ reported t ended → IsUnbegun [] n r
+pub unbegun : (n : List Call) (t : Tally) (ended : WorkerEnd) (r : Report) → SumsUp n (Err ended)
+    → t ≡ record { calls = 0; fresh = 0; repeated = 0; refused = 0 } → r ≡ reported t ended → IsPullUnbegun [] n r
 unbegun n t ended r sums start is =
     let same : r ≡ reported (record { calls = 0; fresh = 0; repeated = 0; refused = 0 }) ended = is ∙ ap (λ z. reported z ended) start in
     let ends : ended ≡ r.ended = sym (ap (λ (z : Report). z.ended) is) in record {
       no_pages = refl;
-      asked = subst (λ (z : WorkerEnd). ((z ≡ GateShut) × (n ≡ [])) ⊎ ((z ≡ OutOfMemory) × ((reply : Reply) × IsRefused reply × (n ≡ call command.Summary reply ∷ [])))) ends (asked_once n ended sums);
+      asked = subst (λ (z : WorkerEnd). ((z ≡ GateShut) × (n ≡ [])) ⊎ ((z ≡ OutOfMemory) × ((reply : Reply) × IsRefusedReply reply × (n ≡ call command.Summary reply ∷ [])))) ends (asked_once n ended sums);
       early = subst EndsEarly ends (early_sum n ended sums);
       counts = same ∙ ap (λ z. reported (record { calls = 0; fresh = 0; repeated = 0; refused = 0 }) z) (sym (ap (λ z. z.ended) is));
     }
@@ -286,7 +286,7 @@ all_pages A B peer p (c ∷ d ∷ ds) runs pages ends =
     one_reply A peer p c.reply (replied (d ∷ ds)) (subst (λ z. IsReply A z c.reply) pages.0 runs.0)
     (all_pages A B peer (p + length (events_in c.reply)) (d ∷ ds) (subst (λ Z. Runs Z (d ∷ ds) B) same runs.1) pages.1 ends)
 
-pub pull_brings : (A B C : List EventValue) (m n : List Call) (r : Report) → Runs A m B → Pulls m n r → (r.ended ≡ Done → Holds C (replied m)) → r.ended ≡ Done → Brings A n C
+pub pull_brings : (A B C : List EventValue) (m n : List Call) (r : Report) → Runs A m B → Pulls m n r → (r.ended ≡ Done → HoldsEach C (replied m)) → r.ended ≡ Done → BringsLacking A n C
 pull_brings A B C m n r runs (inl un) holds done = absurd (subst EndsEarly done un.early)
 pull_brings A B C m n r runs (inr p) holds done = let e = p.3.done done in
     let all = all_pages A B p.0 0 m runs p.3.pages e.1 in record {
@@ -294,5 +294,5 @@ pull_brings A B C m n r runs (inr p) holds done = let e = p.3.done done in
       takes = p.1;
       told = p.2;
       handled_all = e.0 ∙ all;
-      holds = subst (λ z. Holds C z) all (holds done);
+      holds = subst (λ z. HoldsEach C z) all (holds done);
     }

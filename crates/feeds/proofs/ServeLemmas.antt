@@ -13,8 +13,8 @@ use Rattle.site.specs.declared.call.Call.{Call}
 use Rattle.turn_lock.specs.declared.machine.Entry.{Entry}
 use Rattle.turn_lock.specs.History.{StartsWith, entry, made_by}
 use Rattle.views.specs.declared.query.Query.{Query}
-use Rattle.site_lock.specs.Pass.{IsSame, IsSplitOff, Shown, Steps, leave, leaves}
-use Rattle.feeds.specs.Serve.{EachAt, HasCalls, Serves, WorkerAsks, WorkerFeeds, WorkerPulls, worker_of}
+use Rattle.site_lock.specs.Pass.{IsSamePass, IsSplitOff, ShownPass, Steps, leave, leaves}
+use Rattle.feeds.specs.Serve.{EachAt, HasCalls, ServesJobs, WorkerAsks, WorkerFeeds, WorkerPulls, worker_of}
 use Rattle.feeds.specs.declared.asking.Asked.{Asked}
 use Rattle.feeds.specs.declared.report.Report.{Report}
 use Rattle.feeds.specs.declared.serving.Served.{Served}
@@ -24,7 +24,7 @@ use Rattle.feeds.specs.declared.serving.worker.JobEnd.{JobEnd}
 use Rattle.feeds.specs.declared.serving.worker.JobEnd.TheVariants.{Answered, Reported}
 use Rattle.feeds.specs.declared.serving.worker.Work.{Work}
 use Rattle.feeds.specs.declared.serving.worker.Work.TheVariants as work
-use Rattle.feeds.specs.steps.Serve.{AllAt, AllTold, AreAt, Each, Ends, IsJobAt, Performs, WorkerTells, answers_by, answers_in, outcomes, reports_by, reports_in, works_of}
+use Rattle.feeds.specs.steps.Serve.{AllAt, AllTold, AreAt, Each, EndsJob, IsJobAt, Performs, WorkerTells, answers_by, answers_in, outcomes, reports_by, reports_in, works_of}
 use Rattle.feeds.proofs.PullLemmas.{holds_on, keeps_having}
 
 -- one job more
@@ -88,7 +88,7 @@ each_at_more Holds at [] (z ∷ zs) x y h k = absurd h
 each_at_more Holds at (w ∷ ws) [] x y h k = absurd h
 each_at_more Holds at (w ∷ ws) (z ∷ zs) x y h k = (h.0, each_at_more Holds (at + 1) ws zs x y h.1 (subst (λ n. Holds n x y) (omega arith) k))
 
-pub job_of : (p r q : Shown) (place : ℕ) (j : Job) → j.worker ≡ place → IsSame p r → r.splits ≡ p.splits + place → IsSplitOff r q → j.pass ≡ q → IsJobAt p place j.work j
+pub job_of : (p r q : ShownPass) (place : ℕ) (j : Job) → j.worker ≡ place → IsSamePass p r → r.splits ≡ p.splits + place → IsSplitOff r q → j.pass ≡ q → IsJobAt p place j.work j
 job_of p r q place j worker same splits off is = record {
   worker = worker;
   work = refl;
@@ -98,7 +98,7 @@ job_of p r q place j worker same splits off is = record {
   unused = ap (λ z. z.mine) is ∙ off.mine;
 }
 
-pub job_more : (p : Shown) (all ws : List Work) (js out : List Job) (j : Job) → EachAt (IsJobAt p) 0 ws js → IsJobAt p (length ws) j.work j → all ≡ ws ++ j.work ∷ [] → out ≡ js ++ j ∷ [] → EachAt (IsJobAt p) 0 all out
+pub job_more : (p : ShownPass) (all ws : List Work) (js out : List Job) (j : Job) → EachAt (IsJobAt p) 0 ws js → IsJobAt p (length ws) j.work j → all ≡ ws ++ j.work ∷ [] → out ≡ js ++ j ∷ [] → EachAt (IsJobAt p) 0 all out
 job_more p all ws js out j h k more put = subst (λ z. EachAt (IsJobAt p) 0 z out) (sym more) (subst (λ z. EachAt (IsJobAt p) 0 (ws ++ j.work ∷ []) z) (sym put) (each_at_more (IsJobAt p) 0 ws js j.work j h (subst (λ n. IsJobAt p n j.work j) (omega arith) k)))
 
 pub each_at_length : {A : Type 0} → {B : Type 0} → (Holds : ℕ → A → B → Type 0) (at : ℕ) (xs : List A) (ys : List B) → EachAt Holds at xs ys → length ys ≡ length xs
@@ -107,13 +107,13 @@ each_at_length Holds at [] (z ∷ zs) h = absurd h
 each_at_length Holds at (w ∷ ws) [] h = absurd h
 each_at_length Holds at (w ∷ ws) (z ∷ zs) h = omega (arith, each_at_length Holds (at + 1) ws zs h.1)
 
-pub at_jobs : (p : Shown) (at : ℕ) (ws : List Work) (js : List Job) → EachAt (IsJobAt p) at ws js → AreAt p.table js
+pub at_jobs : (p : ShownPass) (at : ℕ) (ws : List Work) (js : List Job) → EachAt (IsJobAt p) at ws js → AreAt p.table js
 at_jobs p at [] [] h = tt
 at_jobs p at [] (j ∷ js) h = absurd h
 at_jobs p at (w ∷ ws) [] h = absurd h
 at_jobs p at (w ∷ ws) (j ∷ js) h = (h.0.table, at_jobs p (at + 1) ws js h.1)
 
-pub at_finished : (lets shuts heard : ℕ → ℕ → Type 0) (t : TableId) (js : List Job) (fs : List Finished) → AreAt t js → Each (Ends lets shuts heard) js fs → AllAt t fs
+pub at_finished : (lets shuts heard : ℕ → ℕ → Type 0) (t : TableId) (js : List Job) (fs : List Finished) → AreAt t js → Each (EndsJob lets shuts heard) js fs → AllAt t fs
 at_finished lets shuts heard t [] [] h k = tt
 at_finished lets shuts heard t [] (f ∷ fs) h k = absurd k
 at_finished lets shuts heard t (j ∷ js) [] h k = absurd k
@@ -174,7 +174,7 @@ still_there : (A : List EventValue) (log : List (Entry Call)) (e : EventValue) �
 still_there A [] e h = h
 still_there A (x ∷ xs) e h = still_there (arrivals_after A x.call) xs e (keeps_having A (handled_by x.call.command x.call.reply) e h)
 
-seen_still : (p q : Shown) (e : EventValue) → StartsWith q.seen p.seen → q.opening ≡ p.opening → has key_cmp (leaves p) e ≡ true → has key_cmp (leaves q) e ≡ true
+seen_still : (p q : ShownPass) (e : EventValue) → StartsWith q.seen p.seen → q.opening ≡ p.opening → has key_cmp (leaves p) e ≡ true → has key_cmp (leaves q) e ≡ true
 seen_still p q e on same h = subst (λ z. has key_cmp z e ≡ true)
     (sym (ap (λ z. leave z q.seen) same ∙ ap (leave p.opening) on.1 ∙ leave-append p.opening p.seen on.0))
     (still_there (leaves p) on.0 e h)
@@ -202,13 +202,13 @@ performs_still lets shuts heard n (work.Pull C) m A B (Answered r) more h = absu
 performs_still lets shuts heard n (work.Ask queries) m A B (Reported r) more h = absurd h
 
 -- what a worker did is what the pass has seen under its number
-has_calls : (p : Shown) (place : ℕ) (j : Job) (f : Finished) (m : List Call) (seen : List (Entry Call)) → j.pass.number ≡ worker_of p place → j.pass.mine ≡ [] → Steps j.pass f.pass m
+has_calls : (p : ShownPass) (place : ℕ) (j : Job) (f : Finished) (m : List Call) (seen : List (Entry Call)) → j.pass.number ≡ worker_of p place → j.pass.mine ≡ [] → Steps j.pass f.pass m
     → made_by f.pass.number seen ≡ f.pass.mine → HasCalls seen (worker_of p place) m
 has_calls p place j f m seen number unused steps own =
     ap (λ z. made_by z seen) (sym (steps.same.number ∙ number)) ∙ own ∙ steps.mine
     ∙ ap (λ z. z ++ map (entry j.pass.number) m) unused ∙ ap (λ z. map (entry z) m) number
 
-worker_tells : (lets shuts heard : ℕ → ℕ → Type 0) (p q : Shown) (place : ℕ) (w : Work) (j : Job) (f : Finished) → q.opening ≡ p.opening → IsJobAt p place w j → Ends lets shuts heard j f → StartsWith q.seen f.pass.seen → made_by f.pass.number q.seen ≡ f.pass.mine
+worker_tells : (lets shuts heard : ℕ → ℕ → Type 0) (p q : ShownPass) (place : ℕ) (w : Work) (j : Job) (f : Finished) → q.opening ≡ p.opening → IsJobAt p place w j → EndsJob lets shuts heard j f → StartsWith q.seen f.pass.seen → made_by f.pass.number q.seen ≡ f.pass.mine
     → WorkerTells lets shuts heard p q place w f.outcome
 worker_tells lets shuts heard p q place w j f same is ends told own = (
   ends.0,
@@ -218,7 +218,7 @@ worker_tells lets shuts heard p q place w j f same is ends told own = (
       (performs_still lets shuts heard j.worker j.work ends.0 (leaves f.pass) (leaves q) f.outcome (λ e h. seen_still f.pass q e told (same ∙ sym (ends.1.same.opening ∙ is.opening)) h) ends.2)),
 )
 
-pub all_tell : (lets shuts heard : ℕ → ℕ → Type 0) (p q : Shown) (at : ℕ) (ws : List Work) (js : List Job) (fs : List Finished) → q.opening ≡ p.opening → EachAt (IsJobAt p) at ws js → Each (Ends lets shuts heard) js fs → AllTold q.seen fs
+pub all_tell : (lets shuts heard : ℕ → ℕ → Type 0) (p q : ShownPass) (at : ℕ) (ws : List Work) (js : List Job) (fs : List Finished) → q.opening ≡ p.opening → EachAt (IsJobAt p) at ws js → Each (EndsJob lets shuts heard) js fs → AllTold q.seen fs
     → EachAt (WorkerTells lets shuts heard p q) at ws (outcomes fs)
 all_tell lets shuts heard p q at [] [] [] same a b c = tt
 all_tell lets shuts heard p q at [] [] (f ∷ fs) same a b c = absurd b
@@ -228,7 +228,7 @@ all_tell lets shuts heard p q at (w ∷ ws) (j ∷ js) [] same a b c = absurd b
 all_tell lets shuts heard p q at (w ∷ ws) (j ∷ js) (f ∷ fs) same a b c = (worker_tells lets shuts heard p q at w j f same a.0 b.0 c.0 c.1, all_tell lets shuts heard p q (at + 1) ws js fs same a.1 b.1 c.2)
 
 -- reports of feeds come first, then those of peers, then answers
-feeds_tell : (lets shuts heard : ℕ → ℕ → Type 0) (p q : Shown) (at : ℕ) (bs : List (List ℕ)) (rest : List Work) (os : List JobEnd) → EachAt (WorkerTells lets shuts heard p q) at (map work.Feed bs ++ rest) os
+feeds_tell : (lets shuts heard : ℕ → ℕ → Type 0) (p q : ShownPass) (at : ℕ) (bs : List (List ℕ)) (rest : List Work) (os : List JobEnd) → EachAt (WorkerTells lets shuts heard p q) at (map work.Feed bs ++ rest) os
     → (rs : List Report) × (more : List JobEnd) × (os ≡ map Reported rs ++ more) × EachAt (WorkerFeeds lets shuts heard p q) at bs rs × EachAt (WorkerTells lets shuts heard p q) (at + length bs) rest more
 feeds_tell lets shuts heard p q at [] rest os h = ([], os, refl, tt, subst (λ n. EachAt (WorkerTells lets shuts heard p q) n rest os) (omega arith) h)
 feeds_tell lets shuts heard p q at (b ∷ bs) rest [] h = absurd h
@@ -236,7 +236,7 @@ feeds_tell lets shuts heard p q at (b ∷ bs) rest (Reported r ∷ os) h = let k
     (r ∷ k.0, k.1, ap (λ z. Reported r ∷ z) k.2, ((h.0.0, h.0.1, h.0.2.0, h.0.2.1), k.3), subst (λ n. EachAt (WorkerTells lets shuts heard p q) n rest k.1) (omega arith) k.4)
 feeds_tell lets shuts heard p q at (b ∷ bs) rest (Answered r ∷ os) h = absurd h.0.2
 
-peers_tell : (lets shuts heard : ℕ → ℕ → Type 0) (p q : Shown) (at : ℕ) (As : List (List EventValue)) (rest : List Work) (os : List JobEnd) → EachAt (WorkerTells lets shuts heard p q) at (map work.Pull As ++ rest) os
+peers_tell : (lets shuts heard : ℕ → ℕ → Type 0) (p q : ShownPass) (at : ℕ) (As : List (List EventValue)) (rest : List Work) (os : List JobEnd) → EachAt (WorkerTells lets shuts heard p q) at (map work.Pull As ++ rest) os
     → (rs : List Report) × (more : List JobEnd) × (os ≡ map Reported rs ++ more) × EachAt (WorkerPulls lets shuts heard p q) at As rs × EachAt (WorkerTells lets shuts heard p q) (at + length As) rest more
 peers_tell lets shuts heard p q at [] rest os h = ([], os, refl, tt, subst (λ n. EachAt (WorkerTells lets shuts heard p q) n rest os) (omega arith) h)
 peers_tell lets shuts heard p q at (A ∷ As) rest [] h = absurd h
@@ -244,7 +244,7 @@ peers_tell lets shuts heard p q at (A ∷ As) rest (Reported r ∷ os) h = let k
     (r ∷ k.0, k.1, ap (λ z. Reported r ∷ z) k.2, ((h.0.0, h.0.1, h.0.2.0, h.0.2.1, h.0.2.2), k.3), subst (λ n. EachAt (WorkerTells lets shuts heard p q) n rest k.1) (omega arith) k.4)
 peers_tell lets shuts heard p q at (A ∷ As) rest (Answered r ∷ os) h = absurd h.0.2
 
-asks_tell : (lets shuts heard : ℕ → ℕ → Type 0) (p q : Shown) (at : ℕ) (qs : List (List Query)) (os : List JobEnd) → EachAt (WorkerTells lets shuts heard p q) at (map work.Ask qs) os → (rs : List Asked) × (os ≡ map Answered rs) × EachAt (WorkerAsks lets shuts heard p q) at qs rs
+asks_tell : (lets shuts heard : ℕ → ℕ → Type 0) (p q : ShownPass) (at : ℕ) (qs : List (List Query)) (os : List JobEnd) → EachAt (WorkerTells lets shuts heard p q) at (map work.Ask qs) os → (rs : List Asked) × (os ≡ map Answered rs) × EachAt (WorkerAsks lets shuts heard p q) at qs rs
 asks_tell lets shuts heard p q at [] [] h = ([], refl, tt)
 asks_tell lets shuts heard p q at [] (o ∷ os) h = absurd h
 asks_tell lets shuts heard p q at (x ∷ xs) [] h = absurd h
@@ -267,8 +267,8 @@ all_answers : (rs : List Asked) → answers_in (map Answered rs) ≡ rs
 all_answers [] = refl
 all_answers (r ∷ rs) = ap (λ l. r ∷ l) (all_answers rs)
 
-pub serves : (lets shuts heard : ℕ → ℕ → Type 0) (p q : Shown) (feeds : List (List ℕ)) (peers : List (List EventValue)) (asks : List (List Query)) (s : Served) (os : List JobEnd) → EachAt (WorkerTells lets shuts heard p q) 0 (works_of feeds peers asks) os
-    → s.reports.items ≡ reports_in os → s.asked.items ≡ answers_in os → Serves lets shuts heard p q feeds peers asks s
+pub serves : (lets shuts heard : ℕ → ℕ → Type 0) (p q : ShownPass) (feeds : List (List ℕ)) (peers : List (List EventValue)) (asks : List (List Query)) (s : Served) (os : List JobEnd) → EachAt (WorkerTells lets shuts heard p q) 0 (works_of feeds peers asks) os
+    → s.reports.items ≡ reports_in os → s.asked.items ≡ answers_in os → ServesJobs lets shuts heard p q feeds peers asks s
 serves lets shuts heard p q feeds peers asks s os h reports answers =
     let a = feeds_tell lets shuts heard p q 0 feeds (map work.Pull peers ++ map work.Ask asks) os h in
     let behind = subst (λ n. EachAt (WorkerTells lets shuts heard p q) n (map work.Pull peers ++ map work.Ask asks) a.1) (omega arith) a.4 in

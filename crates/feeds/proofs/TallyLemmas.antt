@@ -15,7 +15,7 @@ use Rattle.site.specs.declared.call.Call.{Call}
 use Rattle.site.specs.declared.call.Command.TheVariants as command
 use Rattle.site.specs.declared.desk.DeskFault.{DeskFault}
 use Rattle.site.specs.declared.desk.DeskFault.TheVariants as desk
-use Rattle.feeds.specs.Report.{AreTakes, EndsEarly, HasCause, Tells, fresh_of, handled, has_number, repeated_of, reported, sequenced, unsequenced}
+use Rattle.feeds.specs.Report.{AreTakes, EndsEarly, HasCause, TellsReport, fresh_of, handled, is_with_number, repeated_of, reported, sequenced, unsequenced}
 use Rattle.feeds.specs.declared.report.WorkerEnd.{WorkerEnd}
 use Rattle.feeds.specs.declared.report.WorkerEnd.TheVariants.{Done, GateShut, OutOfMemory}
 use Rattle.feeds.specs.declared.report.Report.{Report}
@@ -92,22 +92,22 @@ pub takes-append : (m n : List Call) → AreTakes m → AreTakes n → AreTakes 
 takes-append [] n h k = k
 takes-append (c ∷ cs) n h k = (h.0, takes-append cs n h.1 k)
 
-one_kept : (e : EventValue) → has_number e ≡ true → sequenced (e ∷ []) ≡ e ∷ []
+one_kept : (e : EventValue) → is_with_number e ≡ true → sequenced (e ∷ []) ≡ e ∷ []
 one_kept e h = ap (λ b. cond b (e ∷ []) []) h
 
-one_passed : (e : EventValue) → has_number e ≡ false → sequenced (e ∷ []) ≡ []
+one_passed : (e : EventValue) → is_with_number e ≡ false → sequenced (e ∷ []) ≡ []
 one_passed e h = ap (λ b. cond b (e ∷ []) []) h
 
-not_refused : (e : EventValue) → has_number e ≡ true → unsequenced (e ∷ []) ≡ []
+not_refused : (e : EventValue) → is_with_number e ≡ true → unsequenced (e ∷ []) ≡ []
 not_refused e h = ap (λ b. cond (not b) (e ∷ []) []) h
 
-one_refused : (e : EventValue) → has_number e ≡ false → unsequenced (e ∷ []) ≡ e ∷ []
+one_refused : (e : EventValue) → is_with_number e ≡ false → unsequenced (e ∷ []) ≡ e ∷ []
 one_refused e h = ap (λ b. cond (not b) (e ∷ []) []) h
 
 -- each event has a number or none
 both_kinds : (L : List EventValue) → length (sequenced L) + length (unsequenced L) ≡ length L
 both_kinds [] = refl
-both_kinds (e ∷ es) = elim (has_number e) as (λ b. length (cond b (e ∷ sequenced es) (sequenced es)) + length (cond (not b) (e ∷ unsequenced es) (unsequenced es)) ≡ suc (length es)) [
+both_kinds (e ∷ es) = elim (is_with_number e) as (λ b. length (cond b (e ∷ sequenced es) (sequenced es)) + length (cond (not b) (e ∷ unsequenced es) (unsequenced es)) ≡ suc (length es)) [
   | true ↦ omega (arith, both_kinds es)
   | false ↦ omega (arith, both_kinds es)
 ]
@@ -119,27 +119,27 @@ going_start t is = record { takes = tt; order = refl; fresh = ap (λ z. z.fresh)
 pub bounded : (L : List EventValue) (m : List Call) (b : List EventValue) (t : Tally) → Going L m b t → t.fresh + t.repeated + length b + t.refused ≡ length L
 bounded L m b t g = omega (arith, ap length g.order, length-append (handled m) b, g.fresh, g.repeated, g.all, g.refused, both_kinds L)
 
-skips : (L : List EventValue) (e : EventValue) (m : List Call) (b : List EventValue) (t u : Tally) → Going L m b t → has_number e ≡ false → u ≡ record t { refused = t.refused + 1 } → Going (L ++ e ∷ []) m b u
+skips : (L : List EventValue) (e : EventValue) (m : List Call) (b : List EventValue) (t u : Tally) → Going L m b t → is_with_number e ≡ false → u ≡ record t { refused = t.refused + 1 } → Going (L ++ e ∷ []) m b u
 skips L e m b t u g no_number is = record {
   takes = g.takes;
-  order = g.order ∙ sym (filter-append has_number L (e ∷ []) ∙ ap (λ z. sequenced L ++ z) (one_passed e no_number) ∙ append-nil (sequenced L));
+  order = g.order ∙ sym (filter-append is_with_number L (e ∷ []) ∙ ap (λ z. sequenced L ++ z) (one_passed e no_number) ∙ append-nil (sequenced L));
   fresh = ap (λ z. z.fresh) is ∙ g.fresh;
   repeated = ap (λ z. z.repeated) is ∙ g.repeated;
   all = g.all;
-  refused = let more = ap length (filter-append (λ d. not (has_number d)) L (e ∷ []) ∙ ap (λ z. unsequenced L ++ z) (one_refused e no_number)) in
+  refused = let more = ap length (filter-append (λ d. not (is_with_number d)) L (e ∷ []) ∙ ap (λ z. unsequenced L ++ z) (one_refused e no_number)) in
       omega (arith, ap (λ z. z.refused) is, g.refused, more, length-append (unsequenced L) (e ∷ []));
   answered = g.answered;
 }
 
-keeps : (L : List EventValue) (e : EventValue) (m : List Call) (b c : List EventValue) (t : Tally) → Going L m b t → has_number e ≡ true → c ≡ b ++ e ∷ [] → Going (L ++ e ∷ []) m c t
+keeps : (L : List EventValue) (e : EventValue) (m : List Call) (b c : List EventValue) (t : Tally) → Going L m b t → is_with_number e ≡ true → c ≡ b ++ e ∷ [] → Going (L ++ e ∷ []) m c t
 keeps L e m b c t g numbered is = record {
   takes = g.takes;
   order = ap (λ z. handled m ++ z) is ∙ sym (append_assoc (handled m) b (e ∷ [])) ∙ ap (λ z. z ++ e ∷ []) g.order
-      ∙ sym (filter-append has_number L (e ∷ []) ∙ ap (λ z. sequenced L ++ z) (one_kept e numbered));
+      ∙ sym (filter-append is_with_number L (e ∷ []) ∙ ap (λ z. sequenced L ++ z) (one_kept e numbered));
   fresh = g.fresh;
   repeated = g.repeated;
   all = g.all;
-  refused = g.refused ∙ ap length (sym (filter-append (λ d. not (has_number d)) L (e ∷ []) ∙ ap (λ z. unsequenced L ++ z) (not_refused e numbered) ∙ append-nil (unsequenced L)));
+  refused = g.refused ∙ ap length (sym (filter-append (λ d. not (is_with_number d)) L (e ∷ []) ∙ ap (λ z. unsequenced L ++ z) (not_refused e numbered) ∙ append-nil (unsequenced L)));
   answered = g.answered;
 }
 
@@ -166,7 +166,7 @@ flushes L m n b left t u g f = let w = f.whole refl in let k = f.counted in reco
 }
 
 pub stops : (all L rest : List EventValue) (m n : List Call) (b left : List EventValue) (t u : Tally) (e : WorkerEnd) (r : Report) → L ++ rest ≡ all → Going L m b t → Flushed n b left t u (Some e) → r ≡ reported u e
-    → Tells all (m ++ n) r
+    → TellsReport all (m ++ n) r
 stops all L rest m n b left t u e r split g f is = let k = f.counted in let hs = f.handles in record {
   passed = L;
   behind = rest;
@@ -189,7 +189,7 @@ stops all L rest m n b left t u e r split g f is = let k = f.counted in let hs =
   done = λ d. absurd (subst EndsEarly (sym (ap (λ z. z.ended) is) ∙ d) (early_by n e f.stop));
 }
 
-pub stops_here : (all L rest : List EventValue) (m : List Call) (b : List EventValue) (t : Tally) (e : WorkerEnd) (r : Report) → L ++ rest ≡ all → Going L m b t → EndsEarly e → r ≡ reported t e → Tells all m r
+pub stops_here : (all L rest : List EventValue) (m : List Call) (b : List EventValue) (t : Tally) (e : WorkerEnd) (r : Report) → L ++ rest ≡ all → Going L m b t → EndsEarly e → r ≡ reported t e → TellsReport all m r
 stops_here all L rest m b t e r split g early is = record {
   passed = L;
   behind = rest;
@@ -212,7 +212,7 @@ pub empty_is : {X : Type 0} (b : List X) → length b ≡ 0 → b ≡ []
 empty_is [] e = refl
 empty_is (x ∷ xs) e = absurd (omega (arith, e))
 
-pub ends : (all L rest : List EventValue) (m : List Call) (b : List EventValue) (t : Tally) (r : Report) → L ++ rest ≡ all → rest ≡ [] → Going L m b t → length b ≡ 0 → r ≡ reported t Done → Tells all m r
+pub ends : (all L rest : List EventValue) (m : List Call) (b : List EventValue) (t : Tally) (r : Report) → L ++ rest ≡ all → rest ≡ [] → Going L m b t → length b ≡ 0 → r ≡ reported t Done → TellsReport all m r
 ends all L rest m b t r split none g empty is = let same : L ≡ all = sym (append-nil L) ∙ ap (λ z. L ++ z) (sym none) ∙ split in
     let handled_all : handled m ≡ sequenced L = sym (append-nil (handled m)) ∙ ap (λ z. handled m ++ z) (sym (empty_is b empty)) ∙ g.order in record {
       passed = L;

@@ -13,7 +13,7 @@ use Rattle.site.specs.declared.call.Call.{Call}
 use Rattle.site.specs.declared.call.Command.TheVariants as command
 use Rattle.site.specs.declared.call.Reply.{Reply}
 use Rattle.site.specs.declared.call.Reply.TheVariants.{Paged, Summed}
-use Rattle.feeds.specs.Report.{Counts, EndsEarly, Handles, HasCause, IsRefused, handled}
+use Rattle.feeds.specs.Report.{CountsHandled, EndsEarly, Handles, HasCause, IsRefusedReply, handled}
 use Rattle.feeds.specs.declared.report.WorkerEnd.TheVariants.{Done, GateShut, OutOfMemory}
 use Rattle.feeds.specs.declared.report.Report.{Report}
 
@@ -41,15 +41,15 @@ EndsEmpty (c ∷ []) = c.reply ≡ Paged []
 EndsEmpty (c ∷ d ∷ ds) = EndsEmpty (d ∷ ds)
 
 -- each of the events is among the arrivals
-abbrev pub Holds : List EventValue → List EventValue → Type 0
-Holds A events = AllByRecursion (λ e. has key_cmp A e ≡ true) events
+abbrev pub HoldsEach : List EventValue → List EventValue → Type 0
+HoldsEach A events = AllByRecursion (λ e. has key_cmp A e ≡ true) events
 
 -- a pull by this summary: m asked the one desk for pages, and n handed their events to the other,
 -- all up to an empty page, where it was done
 pub record Pulled (peer : Sources) (m n : List Call) (r : Report) : Type 0 where
   pub pages : ArePages peer 0 m
   pub handles : Handles n (replied m)
-  pub counts : Counts n r
+  pub counts : CountsHandled n r
   pub refused : r.refused ≡ 0
   pub ended : (r.ended ≡ Done) ⊎ EndsEarly r.ended
   pub cause : HasCause m r.ended × HasCause n r.ended
@@ -57,34 +57,34 @@ pub record Pulled (peer : Sources) (m n : List Call) (r : Report) : Type 0 where
 
 -- a pull that got no summary: it did nothing else. The gate was shut before it asked for one, or
 -- this was refused
-pub record IsUnbegun (m n : List Call) (r : Report) : Type 0 where
+pub record IsPullUnbegun (m n : List Call) (r : Report) : Type 0 where
   pub no_pages : m ≡ []
   pub asked : ((r.ended ≡ GateShut) × (n ≡ [])) ⊎ ((r.ended ≡ OutOfMemory)
-      × ((reply : Reply) × IsRefused reply × (n ≡ call command.Summary reply ∷ [])))
+      × ((reply : Reply) × IsRefusedReply reply × (n ≡ call command.Summary reply ∷ [])))
   pub early : EndsEarly r.ended
   pub counts : r ≡ record { read = 0; fresh = 0; repeated = 0; refused = 0; ended = r.ended }
 
 -- a pull, by its calls of the one desk and those of the other, of which the first asks for the
 -- summary
 abbrev pub Pulls : List Call → List Call → Report → Type 0
-Pulls m n r = IsUnbegun m n r ⊎ ((peer : Sources) × (takes : List Call)
+Pulls m n r = IsPullUnbegun m n r ⊎ ((peer : Sources) × (takes : List Call)
     × (n ≡ call command.Summary (Summed peer) ∷ takes) × Pulled peer m takes r)
 
 -- by these calls a desk that now has the arrivals B got all that the summary which it told lacked
 -- of the events A
-pub record Brings (A : List EventValue) (n : List Call) (B : List EventValue) : Type 0 where
+pub record BringsLacking (A : List EventValue) (n : List Call) (B : List EventValue) : Type 0 where
   pub peer : Sources
   pub takes : List Call
   pub told : n ≡ call command.Summary (Summed peer) ∷ takes
   pub handled_all : handled takes ≡ delta (set_of A) peer
-  pub holds : Holds B (delta (set_of A) peer)
+  pub holds : HoldsEach B (delta (set_of A) peer)
 
 -- a pull from a site of one's own with the arrivals A, by its calls m of this site and n of a desk
 -- that then has the arrivals B: the site stays as it was, and all that was lacking was brought,
 -- where it was done
 abbrev pub PullsBy : List EventValue → List Call → List Call → List EventValue → Report → Type 0
-PullsBy A m n B r = Runs A m A × Pulls m n r × (r.ended ≡ Done → Brings A n B)
+PullsBy A m n B r = Runs A m A × Pulls m n r × (r.ended ≡ Done → BringsLacking A n B)
 
 -- so it is by some calls of the site
 abbrev pub PullsFrom : List EventValue → List Call → List EventValue → Report → Type 0
-PullsFrom A n B r = (m : List Call) × Runs A m A × Pulls m n r × (r.ended ≡ Done → Brings A n B)
+PullsFrom A n B r = (m : List Call) × Runs A m A × Pulls m n r × (r.ended ≡ Done → BringsLacking A n B)

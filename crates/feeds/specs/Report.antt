@@ -20,16 +20,16 @@ use Rattle.feeds.specs.declared.report.Report.{Report}
 use Rattle.feeds.specs.declared.report.Tally.{Tally}
 
 -- whether an event has a valid number
-abbrev pub has_number : EventValue → Bool
-has_number e = is_some (number_of e)
+abbrev pub is_with_number : EventValue → Bool
+is_with_number e = is_some (number_of e)
 
 -- the events that have a number
 abbrev pub sequenced : List EventValue → List EventValue
-sequenced L = filter has_number L
+sequenced L = filter is_with_number L
 
 -- and those that have none
 abbrev pub unsequenced : List EventValue → List EventValue
-unsequenced L = filter (λ e. not (has_number e)) L
+unsequenced L = filter (λ e. not (is_with_number e)) L
 
 -- the events that the calls handled, in their order
 abbrev pub handled : List Call → List EventValue
@@ -72,7 +72,7 @@ pub record Handles (m : List Call) (events : List EventValue) : Type 0 where
   pub order : handled m ++ rest ≡ events
 
 -- the report counts the events that the calls handled
-pub record Counts (m : List Call) (r : Report) : Type 0 where
+pub record CountsHandled (m : List Call) (r : Report) : Type 0 where
   pub fresh : r.fresh ≡ fresh_of m
   pub repeated : r.repeated ≡ repeated_of m
   pub handled : r.fresh + r.repeated ≡ length (handled m)
@@ -86,13 +86,13 @@ EndsEarly Done = ⊥
 EndsEarly (BadInput fault) = ⊥
 
 -- the reply says that the call was refused, for want of memory
-abbrev pub IsRefused : Reply → Type 0
-IsRefused (Refused taken fresh) = Unit {0}
-IsRefused _ = ⊥
+abbrev pub IsRefusedReply : Reply → Type 0
+IsRefusedReply (Refused taken fresh) = Unit {0}
+IsRefusedReply _ = ⊥
 
 -- none of the calls was refused
 abbrev pub AreAnswered : List Call → Type 0
-AreAnswered m = AllByRecursion (λ c. IsRefused c.reply → ⊥) m
+AreAnswered m = AllByRecursion (λ c. IsRefusedReply c.reply → ⊥) m
 
 -- the last of the calls was refused, and no other
 pub record EndsRefused (m : List Call) : Type 0 where
@@ -100,7 +100,7 @@ pub record EndsRefused (m : List Call) : Type 0 where
   pub last : Call
   pub calls : m ≡ before ++ last ∷ []
   pub answered : AreAnswered before
-  pub refused : IsRefused last.reply
+  pub refused : IsRefusedReply last.reply
 
 -- no call of a worker that ended so was refused, or the last alone, and that is why it ended
 abbrev pub HasCause : List Call → WorkerEnd → Type 0
@@ -114,12 +114,12 @@ HasCauseIf m (Some ended) = HasCause m ended
 -- the report of a worker that brought these events by these calls: it read the first of them,
 -- passed over those without a number, and handed over the others as far as it came; all of them,
 -- where it was done
-pub record Tells (events : List EventValue) (m : List Call) (r : Report) : Type 0 where
+pub record TellsReport (events : List EventValue) (m : List Call) (r : Report) : Type 0 where
   pub passed : List EventValue
   pub behind : List EventValue
   pub split : passed ++ behind ≡ events
   pub handles : Handles m (sequenced passed)
-  pub counts : Counts m r
+  pub counts : CountsHandled m r
   pub refused : r.refused ≡ length (unsequenced passed)
   pub most : r.read ≤ length events
   pub ended : (r.ended ≡ Done) ⊎ EndsEarly r.ended
@@ -137,18 +137,18 @@ reported t ended = record {
 }
 
 -- how a worker ends whose input was not read
-abbrev pub end_of : ReadFault → WorkerEnd
-end_of read.OutOfMemory = OutOfMemory
-end_of fault = BadInput fault
+abbrev pub end_if_unread : ReadFault → WorkerEnd
+end_if_unread read.OutOfMemory = OutOfMemory
+end_if_unread fault = BadInput fault
 
 -- the report of a worker whose input was not read
 abbrev pub unread : ReadFault → Report
-unread fault = record { read = 0; fresh = 0; repeated = 0; refused = 0; ended = end_of fault }
+unread fault = record { read = 0; fresh = 0; repeated = 0; refused = 0; ended = end_if_unread fault }
 
 -- the report of a worker that was to bring the events that bytes spell: where they were read, that
 -- of these events; else it made no call, and tells why, which is want of memory or a refusal of the
 -- bytes
 abbrev pub Feeds : List ℕ → List Call → Report → Type 0
-Feeds b m r = ((events : List EventValue) × Reads b events × Tells events m r)
+Feeds b m r = ((events : List EventValue) × Reads b events × TellsReport events m r)
     ⊎ ((m ≡ []) × ((fault : ReadFault) × (r ≡ unread fault)
     × (fault ≢ read.OutOfMemory → Refuses b fault)))

@@ -5,7 +5,7 @@ use Rattle.site.specs.declared.call.Call.{Call}
 use Rattle.turn_lock.specs.declared.machine.Entry.{Entry}
 use Rattle.turn_lock.specs.History.{entry, made_by}
 use Rattle.views.specs.declared.query.Query.{Query}
-use Rattle.site_lock.specs.Pass.{Shown, leaves}
+use Rattle.site_lock.specs.Pass.{ShownPass, leaves}
 use Rattle.feeds.specs.Ask.{Asks}
 use Rattle.feeds.specs.Gate.{IsGated}
 use Rattle.feeds.specs.Pull.{PullsBy}
@@ -23,7 +23,7 @@ fault_number NoThread = 2
 
 -- the number of the pass that the worker at this place has: the passes are split off one, in the
 -- order of the places, behind those that it gave away before
-abbrev pub worker_of : Shown → ℕ → List ℕ
+abbrev pub worker_of : ShownPass → ℕ → List ℕ
 worker_of p place = p.number ++ (p.splits + place) ∷ []
 
 -- the history has just these calls under this number
@@ -35,21 +35,21 @@ HasCalls seen number calls = made_by number seen ≡ map (entry number) calls
 module _ (lets shuts heard : ℕ → ℕ → Type 0) where
   -- the calls that q has seen of the worker at this place are those of a feed of these bytes with
   -- this report, and no others went through the gate
-  abbrev pub WorkerFeeds : Shown → Shown → ℕ → List ℕ → Report → Type 0
+  abbrev pub WorkerFeeds : ShownPass → ShownPass → ℕ → List ℕ → Report → Type 0
   WorkerFeeds p q place b r = (m : List Call) × HasCalls q.seen (worker_of p place) m
       × Feeds b m r × IsGated lets shuts heard place (length m) r.ended
 
   -- they are those of a pull from a site with these arrivals; where it was done, all that it
   -- brought is there after what q has seen. Its calls of that site went through the gate too, and
   -- no others
-  abbrev pub WorkerPulls : Shown → Shown → ℕ → List EventValue → Report → Type 0
+  abbrev pub WorkerPulls : ShownPass → ShownPass → ℕ → List EventValue → Report → Type 0
   WorkerPulls p q place A r = (m : List Call) × HasCalls q.seen (worker_of p place) m
       × (pages : List Call) × PullsBy A pages m (leaves q) r
       × IsGated lets shuts heard place (length pages + length m) r.ended
 
   -- they are those of a worker that asked these questions and was answered so, and no others went
   -- through the gate
-  abbrev pub WorkerAsks : Shown → Shown → ℕ → List Query → Asked → Type 0
+  abbrev pub WorkerAsks : ShownPass → ShownPass → ℕ → List Query → Asked → Type 0
   WorkerAsks p q place queries r = (m : List Call) × HasCalls q.seen (worker_of p place) m
       × Asks queries m r × IsGated lets shuts heard place (length m) r.ended
 
@@ -65,7 +65,7 @@ EachAt Holds place (x ∷ xs) (y ∷ ys) = Holds place x y × EachAt Holds (plac
 -- what came of these jobs, between p and q: for each a result of its own, in their order, which
 -- tells of the calls that q has seen of the job's worker. Workers are counted over the feeds, the
 -- peers and then the asks, so each has a number of its own
-pub record Serves (lets shuts heard : ℕ → ℕ → Type 0) (p q : Shown) (feeds : List (List ℕ))
+pub record ServesJobs (lets shuts heard : ℕ → ℕ → Type 0) (p q : ShownPass) (feeds : List (List ℕ))
     (peers : List (List EventValue)) (asks : List (List Query)) (s : Served) : Type 0 where
   pub fed : List Report
   pub pulled : List Report

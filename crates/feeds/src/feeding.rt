@@ -4,7 +4,7 @@ ghost use Rattle.std.specs.Prelude.{◌≡◌, ◌+◌, ◌<◌, ◌^◌, List, 
 ghost use Rattle.event_json.specs.Reading.{max_input};
 ghost use Rattle.site.specs.declared.call.Call.{Call};
 ghost use Rattle.feeds.specs.Gate.{IsGated};
-ghost use Rattle.feeds.specs.Report.{Feeds, Tells, reported, unread};
+ghost use Rattle.feeds.specs.Report.{Feeds, TellsReport, reported, unread};
 ghost use Rattle.feeds.specs.steps.Tally.{Passes};
 
 use crate::flush::{flush, flush_full};
@@ -44,7 +44,7 @@ fn hand_over<D: Desk, G: Gate>(
 ) -> WorkerEnd
     requires start { tally.old ≡ record { calls = 0; fresh = 0; repeated = 0; refused = 0 } }
     ensures { (m : List Call) × D.went desk.old desk.new m
-        × Tells events m (reported tally.new result)
+        × TellsReport events m (reported tally.new result)
         × IsGated (G.lets gate.now) (G.shuts gate.now) (G.heard gate.now) worker (length m) result }
 {
     // The count bounds the sums below.
@@ -77,7 +77,7 @@ fn feed_events<D: Desk, G: Gate>(
     worker: u64,
     events: Events,
 ) -> Report
-    ensures { (m : List Call) × D.went desk.old desk.new m × Tells events m result
+    ensures { (m : List Call) × D.went desk.old desk.new m × TellsReport events m result
         × IsGated (G.lets gate.now) (G.shuts gate.now) (G.heard gate.now) worker (length m)
         result.ended }
 {

@@ -4,7 +4,7 @@ ghost use Rattle.std.specs.Prelude.{◌≡◌, ◌+◌, ◌<◌, ◌≤◌, ◌^
 ghost use Rattle.site.specs.Page.{max_page};
 ghost use Rattle.site.specs.declared.call.Call.{Call};
 ghost use Rattle.feeds.specs.steps.Gate.{GoesThrough};
-ghost use Rattle.feeds.specs.steps.Tally.{Flushed, FlushedIfFull, Gains, short_of};
+ghost use Rattle.feeds.specs.steps.Tally.{Flushed, FlushedIfFull, ComesBehindOthers, short_of};
 
 use crate::permit::{permission, tell};
 use crate::report::{Tally, WorkerEnd};
@@ -38,7 +38,7 @@ pub(crate) fn flush<D: Desk, G: Gate>(
         × GoesThrough (G.lets gate.now) (G.shuts gate.now) (G.heard gate.now) worker
         tally.old.calls (length m) tally.new.calls result }
     ensures gains { result ≡ None
-        → Gains (D.arrivals desk.old) batch.old (D.arrivals desk.new) }
+        → ComesBehindOthers (D.arrivals desk.old) batch.old (D.arrivals desk.new) }
     ensures calls { tally.new.calls ≡ tally.old.calls + 1 }
 {
     tally.calls += 1;

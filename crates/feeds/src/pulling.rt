@@ -4,12 +4,12 @@ ghost use Rattle.std.specs.Prelude.{◌≡◌, ◌+◌, ◌<◌, ◌≤◌, ◌^
 ghost use Rattle.site.specs.Page.{max_page};
 ghost use Rattle.site.specs.declared.call.Call.{Call};
 ghost use Rattle.feeds.specs.Gate.{IsGated};
-ghost use Rattle.feeds.specs.Pull.{Holds, Pulled, Pulls, PullsBy, replied};
+ghost use Rattle.feeds.specs.Pull.{HoldsEach, Pulled, Pulls, PullsBy, replied};
 ghost use Rattle.feeds.specs.Report.{reported};
 ghost use Rattle.feeds.specs.declared.report.WorkerEnd.TheVariants.{Done};
 ghost use Rattle.feeds.specs.steps.Gate.{GoesThrough, end_if};
-ghost use Rattle.feeds.specs.steps.Pull.{HasSameCounts, Moves, Pages, Sums};
-ghost use Rattle.feeds.specs.steps.Tally.{Gains};
+ghost use Rattle.feeds.specs.steps.Pull.{HasSameCounts, MovesPage, Pages, SumsUp};
+ghost use Rattle.feeds.specs.steps.Tally.{ComesBehindOthers};
 
 use crate::flush::flush;
 use crate::permit::{permission, tell};
@@ -26,7 +26,7 @@ const PAGES: u64 = 72_057_594_037_927_936;
 /// The summary of a desk, in the worker's first call, where the gate lets it; else why the worker
 /// ends.
 fn summary_of<E: Desk, G: Gate>(to: &mut E, gate: &G, worker: u64) -> Result<Summary, WorkerEnd>
-    ensures { (n : List Call) × E.went to.old to.new n × Sums n result
+    ensures { (n : List Call) × E.went to.old to.new n × SumsUp n result
         × GoesThrough (G.lets gate.now) (G.shuts gate.now) (G.heard gate.now) worker
         0 (length n) 1 (end_if result) }
 {
@@ -88,8 +88,8 @@ fn move_page<D: Desk, E: Desk, G: Gate>(
     requires few { tally.old.calls + 2 < 2 ^ 64 }
     ensures calls { tally.new.calls ≤ tally.old.calls + 2 }
     ensures moves { (m n : List Call) × D.went from.old from.new m × E.went to.old to.new n
-        × Moves peer.now m n tally.old tally.new result
-        × (result ≡ None → Gains (E.arrivals to.old) (replied m) (E.arrivals to.new))
+        × MovesPage peer.now m n tally.old tally.new result
+        × (result ≡ None → ComesBehindOthers (E.arrivals to.old) (replied m) (E.arrivals to.new))
         × (result ≡ Some Done → E.arrivals to.new ≡ E.arrivals to.old)
         × GoesThrough (G.lets gate.now) (G.shuts gate.now) (G.heard gate.now) worker
         tally.old.calls (length m + length n) tally.new.calls result }
@@ -116,7 +116,7 @@ fn pull_pages<D: Desk, E: Desk, G: Gate>(
     requires start { tally.old ≡ record { calls = 1; fresh = 0; repeated = 0; refused = 0 } }
     ensures pulled { (m n : List Call) × D.went from.old from.new m × E.went to.old to.new n
         × Pulled peer.now m n (reported tally.new result)
-        × (result ≡ Done → Holds (E.arrivals to.new) (replied m))
+        × (result ≡ Done → HoldsEach (E.arrivals to.new) (replied m))
         × GoesThrough (G.lets gate.now) (G.shuts gate.now) (G.heard gate.now) worker
         1 (length m + length n) tally.new.calls (Some result) }
     ensures few { tally.new.fresh + tally.new.repeated + tally.new.refused < 2 ^ 64 }
@@ -141,7 +141,7 @@ fn pull_pages<D: Desk, E: Desk, G: Gate>(
 pub fn pull<D: Desk, E: Desk, G: Gate>(from: &mut D, to: &mut E, gate: &G, worker: u64) -> Report
     ensures { (m n : List Call) × D.went from.old from.new m × E.went to.old to.new n
         × Pulls m n result
-        × (result.ended ≡ Done → Holds (E.arrivals to.new) (replied m))
+        × (result.ended ≡ Done → HoldsEach (E.arrivals to.new) (replied m))
         × IsGated (G.lets gate.now) (G.shuts gate.now) (G.heard gate.now) worker
         (length m + length n) result.ended }
 {

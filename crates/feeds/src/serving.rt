@@ -6,8 +6,8 @@ mod worker;
 
 ghost use Rattle.std.specs.Prelude.{◌≡◌, ◌≤◌, ◌+◌, length, IfErr, IfOk};
 ghost use Rattle.turn_lock.specs.History.{StartsWith};
-ghost use Rattle.site_lock.specs.Pass.{IsSame};
-ghost use Rattle.feeds.specs.Serve.{Serves, fault_number};
+ghost use Rattle.site_lock.specs.Pass.{IsSamePass};
+ghost use Rattle.feeds.specs.Serve.{ServesJobs, fault_number};
 ghost use Rattle.feeds.specs.declared.serving.ServeFault.TheVariants.{OutOfMemory};
 
 use crate::aside::Aside;
@@ -93,12 +93,12 @@ pub fn serve<R: Threads + Wait + Sync, G: Gate + Sync, A: Aside>(
 ) -> Result<Served, ServeFault>
     requires own { pass.old.table ≡ shared.now }
     requires few { length jobs.feeds + length jobs.peers + length jobs.asks ≤ 16 }
-    ensures same { IsSame pass.old pass.new × (pass.new.mine ≡ pass.old.mine) }
+    ensures same { IsSamePass pass.old pass.new × (pass.new.mine ≡ pass.old.mine) }
     ensures seen { StartsWith pass.new.seen pass.old.seen }
     ensures splits { (pass.old.splits ≤ pass.new.splits) × (pass.new.splits
         ≤ pass.old.splits + (length jobs.feeds + length jobs.peers + length jobs.asks)) }
     ensures served { IfOk result (λ s.
-        Serves (G.lets gate.now) (G.shuts gate.now) (G.heard gate.now) pass.old pass.new
+        ServesJobs (G.lets gate.now) (G.shuts gate.now) (G.heard gate.now) pass.old pass.new
         jobs.feeds jobs.peers jobs.asks s) }
     ensures aside { A.moves aside.old aside.new }
     ensures refused { IfErr result (λ _. pass.new.seen ≡ pass.old.seen) }

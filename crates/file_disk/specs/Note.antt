@@ -4,6 +4,6 @@ use Rattle.sqlite_disk.specs.Events.{Event}
 use Rattle.file_disk.specs.declared.system.record.Note.{Note}
 
 -- the event of a note: a tested read has its key and its digest before the bytes that came
-abbrev pub event_of : Note → List ℕ → Event
-event_of n bytes =
+abbrev pub event_of_note : Note → List ℕ → Event
+event_of_note n bytes =
     (n.kind, n.at, n.count, n.done, if n.kind == 6 then n.key ∷ n.want ∷ bytes else bytes)

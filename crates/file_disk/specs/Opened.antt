@@ -9,15 +9,15 @@ use Rattle.file_disk.specs.File.{calls_of}
 use Rattle.file_disk.specs.declared.system_file.SystemFile.{SystemFile}
 
 -- it was settled, under this key, and that is all
-abbrev pub IsSettled : ℕ → SystemFile → Type 0
-IsSettled key f = calls_of f.file ≡ settled key ∷ []
+abbrev pub IsFileSettled : ℕ → SystemFile → Type 0
+IsFileSettled key f = calls_of f.file ≡ settled key ∷ []
 
 module _ {S : Type 0} {g : calls.Ghosts SystemFile} where
   -- it is the log or the database file, and was settled under its key
   pub record IsFresh {start : Ghosts S} (is_log : Bool) (f : Modelled SystemFile S g start)
       : Type 0 where
     pub which : f.is_log ≡ is_log
-    pub settled : IsSettled f.key f.calls
+    pub settled : IsFileSettled f.key f.calls
 
   -- the digests of what is read from it are taken under this key
   abbrev pub IsUnder : {start : Ghosts S} → ℕ → Modelled SystemFile S g start → Type 0

@@ -25,8 +25,8 @@ pub fn files_of<S: Start>(
     ensures log_usable { IfOk result (λ files. IsTrue (is_usable S.Start files.log)) }
     ensures db_usable { IfOk result (λ files. IsTrue (is_usable S.Start files.db)) }
 {
-    let log = SystemFile::settled(log, key)?;
-    let db = SystemFile::settled(db, key)?;
+    let log = SystemFile::of_open(log, key)?;
+    let db = SystemFile::of_open(db, key)?;
     Ok(Files {
         log: Modelled::new(log, true, key),
         db: Modelled::new(db, false, key),

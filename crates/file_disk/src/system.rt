@@ -5,7 +5,7 @@ ghost use Rattle.std.specs.Prelude.{◌≡◌, ◌<◌, ◌≤◌, ◌^◌, [], 
 ghost use Rattle.sqlite_disk.specs.Events.{cut, flushed, measured, read, read_under, settled, written};
 ghost use Rattle.sqlite_disk.specs.Refusal.{as_number, finds_no_room, is_no_room};
 ghost use Rattle.file_disk.specs.File.{calls_of};
-ghost use Rattle.file_disk.specs.Note.{event_of};
+ghost use Rattle.file_disk.specs.Note.{event_of_note};
 
 use sqlite_disk::is_no_room;
 use std::os::unix::fs::FileExt;
@@ -128,9 +128,9 @@ impl OpenFile {
             (λ n. (0 < n) × (n ≤ length buf.old) × (note.at < 2 ^ 63)) }
         ensures noted { MatchResult result
             (λ n. calls_of self.new
-            ≡ event_of (record note { done = true }) (take n buf.new) ∷ calls_of self.old)
+            ≡ event_of_note (record note { done = true }) (take n buf.new) ∷ calls_of self.old)
             (λ _. calls_of self.new
-            ≡ event_of (record note { done = false }) [] ∷ calls_of self.old) }
+            ≡ event_of_note (record note { done = false }) [] ∷ calls_of self.old) }
     {
         let answer = read_from(&self.file, note.at, buf);
         let (came, done) = match answer {
@@ -165,7 +165,7 @@ impl OpenFile {
             ≡ cut len (is_ok result) (as_number (finds_no_room result)) ∷ calls_of self.old }
     {
         let answer = self.file.set_len(len as u64);
-        self.note(CUT, len as u64, room(&answer), answer.is_ok(), &[]);
+        self.note(CUT, len as u64, no_room_count(&answer), answer.is_ok(), &[]);
         answer
     }
 
@@ -175,13 +175,13 @@ impl OpenFile {
             ≡ flushed (is_ok result) (as_number (finds_no_room result)) ∷ calls_of self.old }
     {
         let answer = self.file.sync_data();
-        self.note(FLUSHED, 0, room(&answer), answer.is_ok(), &[]);
+        self.note(FLUSHED, 0, no_room_count(&answer), answer.is_ok(), &[]);
         answer
     }
 
     /// Adds a call, that is no tested read, to the record.
     fn note(&mut self, kind: u64, at: u64, count: u64, done: bool, bytes: &[u8])
-        ensures { calls_of self.new ≡ event_of (record {
+        ensures { calls_of self.new ≡ event_of_note (record {
           kind = kind;
           at = at;
           count = count;
@@ -203,7 +203,7 @@ impl OpenFile {
 }
 
 /// 1 where a call found no room, else 0.
-fn room(answer: &io::Result<()>) -> u64
+fn no_room_count(answer: &io::Result<()>) -> u64
     ensures { result ≡ as_number (finds_no_room answer.now) }
 {
     match answer {

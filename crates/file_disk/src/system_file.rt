@@ -13,11 +13,11 @@ pub struct SystemFile {
 }
 
 impl SystemFile {
-    ghost use Rattle.file_disk.specs.Opened.{IsSettled};
+    ghost use Rattle.file_disk.specs.Opened.{IsFileSettled};
 
     /// Takes an open file, once what was written to it before has reached its device.
-    pub(crate) fn settled(file: fs::File, key: u64) -> io::Result<SystemFile>
-        ensures { IfOk result (IsSettled key) }
+    pub(crate) fn of_open(file: fs::File, key: u64) -> io::Result<SystemFile>
+        ensures { IfOk result (IsFileSettled key) }
     {
         let mut file = OpenFile::of(file);
         file.settle(key)?;

@@ -13,7 +13,8 @@ use Rattle.inbox.specs.Sets.{AreEvents, set_of}
 use Rattle.views.specs.Law.{AnswersAreAlike}
 use Rattle.views.specs.Question.{IsAnswer}
 use Rattle.views.specs.declared.query.Query.{Query}
-use Rattle.file_reports.specs.Reports.{EachReads, HoldsEvent, HoldSameEvents, IsReport, joined}
+use Rattle.event_files.specs.Files.{EachReads, joined}
+use Rattle.file_reports.specs.Reports.{HoldsEvent, HoldSameEvents, IsReport}
 use Rattle.file_reports.specs.Reports.{KeepsFiles}
 
 or_true : (b : Bool) → (b || true) ≡ true

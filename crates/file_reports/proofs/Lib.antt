@@ -1,4 +1,2 @@
 mod AlikeLemmas
 mod FileLemmas
-mod ListLemmas
-mod ShelfLemmas

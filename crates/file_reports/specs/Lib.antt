@@ -1,4 +1,2 @@
-pub mod Numbers
-pub mod Shelves
 pub mod Reports
 pub mod steps

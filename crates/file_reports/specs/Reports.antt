@@ -1,59 +1,17 @@
 -- Answers to questions about the events of files.
-use Rattle.std.specs.Prelude.{◌≡◌, ◌≤◌, ◌⊎◌, ◌↔◌, ◌++◌, Contains, ℕ, List, [], ◌∷◌, length, true, None, Some, is_some, slice_get, take}
-use Rattle.std.specs.List.{flat_map, list_all}
-use Rattle.std.specs.List.Sorted.{IsPermutation}
+use Rattle.std.specs.Prelude.{◌≡◌, ◌≤◌, ◌↔◌, ◌++◌, Contains, ℕ, List, [], ◌∷◌, length}
 use Rattle.attributes.specs.Event.{EventValue}
-use Rattle.attributes.specs.Sequence.{number_of, sequence_fault}
-use Rattle.attributes.specs.declared.fault.Fault.{Fault}
-use Rattle.event_json.specs.Reading.{Refuses, Reads, max_input}
+use Rattle.event_json.specs.Reading.{max_input}
 use Rattle.inbox.specs.Sets.{AreEvents, set_of}
 use Rattle.views.specs.Question.{IsAnswer}
 use Rattle.views.specs.declared.query.Query.{Query}
-use Rattle.file_reports.specs.declared.refusal.ReportFault.{ReportFault}
-use Rattle.file_reports.specs.declared.refusal.ReportFault.TheVariants as fault
-use Rattle.file_reports.specs.declared.refusal.Refused.{Refused}
-
--- ---- the events of files
-
--- each event has a number
-abbrev pub AreSequenced : List EventValue → Type 0
-AreSequenced events = list_all (λ e. is_some (number_of e)) events ≡ true
-
--- each file spells its list of events, all of them with numbers
-abbrev pub EachReads : List (List ℕ) → List (List EventValue) → Type 0
-EachReads [] [] = Unit {0}
-EachReads (file ∷ files) (events ∷ lists) =
-    Reads file events × AreSequenced events × EachReads files lists
-EachReads _ _ = ⊥
-
--- the events of all lists
-abbrev pub joined : List (List EventValue) → List EventValue
-joined lists = flat_map (λ events. events) lists
-
--- the bytes spell these events, each of them with a number
-pub record SpellsNumbered (b : List ℕ) (events : List EventValue) : Type 0 where
-  pub reads : Reads b events
-  pub numbered : AreSequenced events
-  pub are : AreEvents events
-
--- the bytes spell these events, each of them with a number, in whatever order
-pub record SpellsUnordered (b : List ℕ) (events : List EventValue) : Type 0 where
-  pub ordered : List EventValue
-  pub spells : SpellsNumbered b ordered
-  pub same : IsPermutation ordered events
-
--- the files all spell events with numbers, and these are they, one file behind the other
-abbrev pub SpellAll : List (List ℕ) → List EventValue → Type 0
-SpellAll files events =
-    (lists : List (List EventValue)) × EachReads files lists × (events ≡ joined lists)
+use Rattle.event_files.specs.Files.{EachReads, joined}
 
 -- the files spell events with numbers, and the site's set, of which these are the arrivals, is that
 -- of these events
 abbrev pub KeepsFiles : List (List ℕ) → List EventValue → Type 0
 KeepsFiles files site = (lists : List (List EventValue)) × EachReads files lists
     × AreEvents (joined lists) × (set_of site ≡ set_of (joined lists))
-
--- ---- the answers
 
 -- the files all spell events with numbers, and the text answers the question about the set of these
 -- events
@@ -76,47 +34,7 @@ HoldsEvent files e =
 abbrev pub HoldSameEvents : List (List ℕ) → List (List ℕ) → Type 0
 HoldSameEvents files others = (e : EventValue) → HoldsEvent files e ↔ HoldsEvent others e
 
--- ---- the refusals
-
--- the event at i is the first without a number, and this is why
-pub record IsUnnumberedAt (events : List EventValue) (i : ℕ) (why : Fault) : Type 0 where
-  pub event : EventValue
-  pub at : slice_get events i ≡ Some event
-  pub without : number_of event ≡ None
-  pub reason : why ≡ sequence_fault event
-  pub first : AreSequenced (take i events)
-
--- the first of the events without a number, and why it has none
-abbrev pub IsUnnumbered : List EventValue → ReportFault → Type 0
-IsUnnumbered events fault.OutOfMemory = ⊥
-IsUnnumbered events (fault.Read why) = ⊥
-IsUnnumbered events (fault.Event i why) = IsUnnumberedAt events i why
-
--- the first fault of a file: it spells no events, or one of its events has no number
-abbrev pub IsFault : List ℕ → ReportFault → Type 0
-IsFault file fault.OutOfMemory = ⊥
-IsFault file (fault.Read why) = Refuses file why
-IsFault file (fault.Event i why) =
-    (events : List EventValue) × Reads file events × IsUnnumberedAt events i why
-
--- there is a file, and the first is not larger than what is read
-abbrev pub FirstFits : List (List ℕ) → Type 0
-FirstFits [] = ⊥
-FirstFits (file ∷ files) = length file ≤ max_input
-
 -- the first file, where there is one, is not larger than what is read
 abbrev pub FirstFitsIfAny : List (List ℕ) → Type 0
 FirstFitsIfAny [] = Unit {0}
 FirstFitsIfAny (file ∷ files) = length file ≤ max_input
-
--- the first file at fault, and its first fault
-pub record IsAtFault (files : List (List ℕ)) (index : ℕ) (why : ReportFault) : Type 0 where
-  pub file : List ℕ
-  pub at : slice_get files index ≡ Some file
-  pub is_fault : IsFault file why
-  pub before : (lists : List (List EventValue)) × EachReads (take index files) lists
-
--- memory ran out, or this is the first file at fault
-abbrev pub IsRefusal : List (List ℕ) → Refused → Type 0
-IsRefusal files refused =
-    (refused.fault ≡ fault.OutOfMemory) ⊎ IsAtFault files refused.file refused.fault

@@ -1,12 +1,12 @@
 //! The answer to a question about the events of files.
 ghost use Rattle.std.specs.Prelude.{◌≡◌, ℕ, List, IfErr, IfOk};
 ghost use Rattle.inbox.specs.Sets.{set_of, union};
-ghost use Rattle.file_reports.specs.Reports.{FirstFitsIfAny, HoldSameEvents, IsReport, IsReportWith, IsRefusal, KeepsFiles};
+ghost use Rattle.event_files.specs.Files.{IsRefusal};
+ghost use Rattle.file_reports.specs.Reports.{FirstFitsIfAny, HoldSameEvents, IsReport, IsReportWith, KeepsFiles};
 
-use crate::batch::EventReader;
 use crate::intake::{site_of, take_all};
-use crate::refusal::{Refused, ReportFault};
 use attributes::{Batch, Octets, Text};
+use event_files::{EventReader, Refused, ReportFault};
 use event_json::readings_are_one;
 use site::Site;
 use std::alloc::{AllocError, Global};

@@ -1,12 +1,12 @@
-//! The events of all files, in one site or one batch.
-ghost use Rattle.std.specs.Prelude.{◌≡◌, ◌≢◌, ◌≤◌, ◌++◌, IfErr, IfOk, OnOk, length};
+//! The events of all files, in one site.
+ghost use Rattle.std.specs.Prelude.{◌≡◌, ◌≢◌, ◌≤◌, IfErr, IfOk, OnOk, length};
 ghost use Rattle.event_json.specs.Reading.{max_input};
-ghost use Rattle.file_reports.specs.Reports.{FirstFits, IsFault, IsRefusal, KeepsFiles, SpellAll};
-ghost use Rattle.file_reports.specs.steps.Intake.{Gains, TakesFile};
+ghost use Rattle.event_files.specs.Files.{FirstFits, IsFault, IsRefusal};
+ghost use Rattle.file_reports.specs.Reports.{KeepsFiles};
+ghost use Rattle.file_reports.specs.steps.Intake.{GainsSet, TakesFile};
 
-use crate::batch::EventReader;
-use crate::refusal::{Refused, ReportFault};
 use attributes::{Batch, Octets};
+use event_files::{EventReader, Refused, ReportFault};
 use inbox::laws::sets_are_members;
 use site::Site;
 use std::alloc::{AllocError, Global};
@@ -61,52 +61,10 @@ fn take_file<R: EventReader>(
 
 /// Moves the events of a batch into the site.
 pub fn take_all(site: &mut Site, mut batch: Batch) -> Result<(), AllocError>
-    ensures { OnOk result (Gains batch site.old site.new) }
+    ensures { OnOk result (GainsSet batch site.old site.new) }
 {
     match site.take_batch(&mut batch) {
         Ok(_) => Ok(()),
         Err(_) => Err(AllocError),
     }
-}
-
-/// The events of all files, one file behind the other, with their repeats. The first file at fault
-/// is named, as for a report. Time in proportion to the files' bytes.
-pub fn events_of<R: EventReader>(
-    alloc: Global,
-    reader: &R,
-    files: &[Octets],
-) -> Result<Batch, Refused>
-    requires { R.can_read reader.now }
-    ensures ok { IfOk result (SpellAll files.now) }
-    ensures err { IfErr result (IsRefusal files.now) }
-    ensures memory { IfErr result (λ refused. refused.fault ≡ ReportFault.OutOfMemory
-        → FirstFits files.now) }
-{
-    let mut events = Batch::empty(alloc);
-    for (file, bytes) in files.iter().enumerate() {
-        match reader.read(alloc, bytes.as_bytes()) {
-            Ok(more) => append(&mut events, more)?,
-            Err(fault) => {
-                return Err(Refused {
-                    file: file as u64,
-                    fault,
-                });
-            }
-        }
-    }
-    Ok(events)
-}
-
-/// Moves events behind those of a batch.
-pub fn append(events: &mut Batch, mut more: Batch) -> Result<(), AllocError>
-    ensures { OnOk result (events.new ≡ events.old ++ more) }
-{
-    if events.is_empty() {
-        *events = more;
-        return Ok(());
-    }
-    while let Some(event) = more.take_front() {
-        events.push(event)?;
-    }
-    Ok(())
 }

@@ -21,8 +21,8 @@ abbrev pub prefix : ℕ → Kept → List EventValue
 prefix n inbox = take n (events inbox)
 
 -- an event is there
-abbrev pub Holds : Kept → EventValue → Type 0
-Holds inbox e = has key_cmp inbox.arrivals e ≡ true
+abbrev pub IsThere : Kept → EventValue → Type 0
+IsThere inbox e = has key_cmp inbox.arrivals e ≡ true
 
 -- the event at a place of a list, where there is one, is not there
 abbrev pub LacksAt : Kept → List EventValue → ℕ → Type 0

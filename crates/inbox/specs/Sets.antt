@@ -1,10 +1,10 @@
 -- Sets of events, each as the list of its members in key order.
-use Rattle.std.specs.Prelude.{List}
+use Rattle.std.specs.Prelude.{◌≡◌, List, []}
 use Rattle.std.specs.List.{AllByRecursion}
 use Rattle.attributes.specs.Event.{EventValue}
 use Rattle.attributes.specs.Fault.{IsEvent}
 use Rattle.inbox.specs.KeyOrder.{key_cmp}
-use Rattle.inbox.specs.Ordered.{add_all, in_order}
+use Rattle.inbox.specs.Ordered.{add_all, append_new, in_order}
 
 -- the set of the events of a list
 abbrev pub set_of : List EventValue → List EventValue
@@ -13,6 +13,10 @@ set_of = in_order key_cmp
 -- the set E, with each of the events F
 abbrev pub union : List EventValue → List EventValue → List EventValue
 union E F = add_all key_cmp E F
+
+-- no event stands twice
+abbrev pub IsEachOnce : List EventValue → Type 0
+IsEachOnce L = append_new key_cmp [] L ≡ L
 
 -- each item is an event
 abbrev pub AreEvents : List EventValue → Type 0

@@ -3,7 +3,7 @@
 ghost use Rattle.std.specs.Prelude.{◌≡◌, ◌≢◌, ◌+◌, ◌<◌, ◌≤◌, ◌∷◌, ◌++◌, [], Ok, drop, false, filter, is_ok, length, map, slice_get, take, true, IfOk, IfErr, IfSome, IfNone, OnOk, OnErr, Some, if◌then◌else◌};
 ghost use Rattle.attributes.specs.Event.{EventValue};
 ghost use Rattle.inbox.specs.Conflicts.{conflict_of, conflicts, conflicts_of, is_first_of_several, of_key};
-ghost use Rattle.inbox.specs.Kept.{Adds, HaveCome, Holds, IsGrownBy, LacksAt, answer_to, events, prefix};
+ghost use Rattle.inbox.specs.Kept.{Adds, HaveCome, IsThere, IsGrownBy, LacksAt, answer_to, events, prefix};
 ghost use Rattle.inbox.specs.KeyOrder.{key_cmp};
 ghost use Rattle.inbox.specs.Ordered.{IsGapFor, has};
 ghost use Rattle.inbox.specs.Sets.{AreEvents};
@@ -93,7 +93,7 @@ impl Inbox {
         ensures { result ≡ self.now.spare }
     {
         let events = self.arrivals.capacity() - self.arrivals.len();
-        events.min(self.places.room()) as u64
+        events.min(self.places.room_left()) as u64
     }
 
     /// Makes room for n more events. Where there is room for them, it takes no memory.
@@ -148,7 +148,7 @@ impl Inbox {
         ensures set { Adds (event ∷ []) self.old self.new }
         ensures answer { result ≡ answer_to self.old event }
         ensures room { self.old.spare ≤ self.new.spare + 1 }
-        ensures again { Holds self.old event → self.new ≡ self.old }
+        ensures again { IsThere self.old event → self.new ≡ self.old }
     {
         match find(&self.arrivals, &self.places, &event) {
             Ok(_) => Taken::Again,
@@ -171,7 +171,7 @@ impl Inbox {
         ensures room { self.old.spare ≤ self.new.spare + 1 }
 
         // An event that is there needs no memory.
-        ensures again { Holds self.old event → (result ≡ Ok Again) × (self.new ≡ self.old) }
+        ensures again { IsThere self.old event → (result ≡ Ok Again) × (self.new ≡ self.old) }
 
         ensures same { OnErr result (self.new.arrivals ≡ self.old.arrivals) }
         ensures spare { OnErr result (self.old.spare ≡ 0) }

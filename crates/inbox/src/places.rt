@@ -4,7 +4,7 @@ ghost use Rattle.std.specs.Prelude.{ℕ, ◌≡◌, ◌≢◌, IfSome, IfNone, �
 ghost use Rattle.std.specs.List.{insert};
 ghost use Rattle.std.specs.Vec.{vec_capacity, vec_len};
 ghost use Rattle.inbox.specs.declared.places.Late.{Late};
-ghost use Rattle.inbox.specs.steps.Woven.{IsAmong, IsBehind, IsElsewhere, IsLateAt, Rise, StandsAt, order, up_to, woven};
+ghost use Rattle.inbox.specs.steps.Woven.{IsAmong, IsLateBehind, IsElsewhere, IsLateAt, Rise, StandsAt, order, up_to_late, woven};
 
 use std::alloc::{AllocError, Global};
 use std::marker::Model;
@@ -57,7 +57,7 @@ fn push_to(settled: &[usize], from: usize, late: Late, all: &mut Vec<usize>)
     requires low { from ≤ late.before }
     requires high { late.before ≤ length settled.now }
     requires room { vec_len all.old + (late.before - from) + 1 ≤ vec_capacity all.old }
-    ensures items { all.new.items ≡ all.old.items ++ up_to from settled.now late }
+    ensures items { all.new.items ≡ all.old.items ++ up_to_late from settled.now late }
     ensures len { vec_len all.new ≡ vec_len all.old + (late.before - from) + 1 }
     ensures capacity { vec_capacity all.old ≤ vec_capacity all.new }
 {
@@ -101,7 +101,7 @@ fn make_room(late: &mut Vec<Late>, wanted: usize) -> Result<(), AllocError>
 fn late_among(late: &[Late], i: usize) -> usize
     ensures within { result ≤ length late.now }
     ensures before { (k : ℕ) → k + 1 ≡ result → IsAmong late.now k i }
-    ensures after { IsBehind late.now result i }
+    ensures after { IsLateBehind late.now result i }
     ensures few { result ≤ i }
 {
     let mut low = 0;
@@ -199,7 +199,7 @@ impl Places {
     }
 
     /// For how many more positions there is room.
-    pub(crate) fn room(&self) -> usize
+    pub(crate) fn room_left(&self) -> usize
         ensures { result ≡ self.now.room }
     {
         self.settled.capacity().min(self.other.capacity()) - (self.settled.len() + self.late.len())
@@ -213,7 +213,7 @@ impl Places {
         ensures err { OnErr result (self.old.room < n) }
         ensures kept { self.old.room ≤ self.new.room }
     {
-        if n <= self.room() {
+        if n <= self.room_left() {
             return Ok(());
         }
         let Some(wanted) = self.len().checked_add(n) else {

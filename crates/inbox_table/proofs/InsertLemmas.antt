@@ -24,7 +24,7 @@ use Rattle.attributes.specs.Event.{EventValue, id_of, source_of, text}
 use Rattle.inbox.specs.KeyOrder.{key_cmp}
 use Rattle.inbox.specs.Ordered.{append_new, has}
 use Rattle.database_layout.specs.Tables.{inbox2}
-use Rattle.inbox_table.specs.Rows.{IsNumbered, block_in, number_in, row_of, rows_from}
+use Rattle.inbox_table.specs.Rows.{IsNumbered, block_of_event, number_in, row_of, rows_from}
 use Rattle.inbox_table.specs.declared.version.Version.TheVariants.{Two}
 use Rattle.inbox_table.specs.steps.Turns.{Home, IsFilled, IsHome, KeepsOthers, Puts as PutsEvent, schema_at, tree_at}
 use Rattle.inbox_table.proofs.HomeLemmas.{listed, one_index, others_same, works_none}
@@ -41,7 +41,7 @@ same_value : {B E : Type 0} {a b : B} → ◌≡◌ {A = Result B E} (Ok a) (Ok 
 same_value e = cc
 
 abbrev pub params_of : ℕ → EventValue → Row
-params_of place e = Int (pos place) ∷ Words (source_of e) ∷ Words (id_of e) ∷ Int (pos (number_in e)) ∷ Words (text e) ∷ Int (pos (block_in e)) ∷ []
+params_of place e = Int (pos place) ∷ Words (source_of e) ∷ Words (id_of e) ∷ Int (pos (number_in e)) ∷ Words (text e) ∷ Int (pos (block_of_event e)) ∷ []
 
 abbrev one_if : Bool → ℕ
 one_if there = if there then 0 else 1

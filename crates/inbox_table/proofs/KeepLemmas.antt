@@ -9,7 +9,7 @@ use Rattle.attributes.specs.Event.{EventValue}
 use Rattle.database_layout.specs.Layout.{inbox_tree, schema_in}
 use Rattle.inbox.specs.KeyOrder.{key_cmp}
 use Rattle.inbox.specs.Ordered.{append_new, has}
-use Rattle.inbox_table.specs.Beside.{KeepsService}
+use Rattle.inbox_table.specs.Beside.{KeepsServiceBeside}
 use Rattle.inbox_table.specs.Calls.{AreFresh, IsSettled, KeepEffect, MayTake, Stands, Takes}
 use Rattle.inbox_table.specs.Rows.{IsInbox}
 use Rattle.inbox_table.specs.declared.fault.TableFault.{TableFault}
@@ -113,7 +113,7 @@ module _ (rows : ℕ) (L : List EventValue) (old mid : State) (fresh : ℕ) (so_
       omega (arith, it.count, same, counted events box)
 
   -- the service beside the table
-  beside : KeepsService old.now mid.now
+  beside : KeepsServiceBeside old.now mid.now
   beside =
       let box = stood.table in
       let it = taking stood.events box in
@@ -133,7 +133,7 @@ module _ (rows : ℕ) (L : List EventValue) (old mid : State) (fresh : ℕ) (so_
   effect_done last is still settled was = record {
     takes = subst (λ (d : Database). Takes L old.now d) (sym is) took;
     fresh = fresh_are;
-    beside = subst (λ (d : Database). KeepsService old.now d) (sym is) beside;
+    beside = subst (λ (d : Database). KeepsServiceBeside old.now d) (sym is) beside;
     stays_open = still;
     settled = settled;
     same = λ _. tt;

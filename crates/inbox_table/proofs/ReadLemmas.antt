@@ -18,7 +18,7 @@ use Rattle.attributes.specs.Fault.{IsEvent}
 use Rattle.inbox_table.specs.Rows.{AreNumbered, IsListed, IsNumbered, shown_from, shown_of}
 use Rattle.inbox_table.specs.Texts.{select_text}
 use Rattle.inbox_table.specs.declared.version.Version.{Version}
-use Rattle.inbox_table.specs.steps.Reads.{HasRead, HasVersion, IsAtStart, Tells}
+use Rattle.inbox_table.specs.steps.Reads.{HasRead, HasVersion, IsAtStart, TellsRows}
 use Rattle.inbox_table.proofs.EventLemmas.{numbered_more}
 use Rattle.inbox_table.proofs.LoadLemmas.{loads, tells}
 use Rattle.inbox_table.proofs.OnceLemmas.{adopted}
@@ -89,7 +89,7 @@ module _ {S : Type 0} (v : Version) (g : Ghosts S) (start : Held S) (wanted : Ev
 
   module _ (first : IsAtStart v g start) (mid now : Held S) (place : ℕ) (batch : List EventValue) (it : HasRead v g start mid wanted place batch) where
     -- the rows that were read are all
-    pub tells_all : ((e f : EventValue) → IsEvent e → IsEvent f → text e ≡ text f → e ≡ f) → Advances g mid now None → (rows : ℕ) → rows ≡ place - 1 → Tells v wanted (state g start).now rows batch
+    pub tells_all : ((e f : EventValue) → IsEvent e → IsEvent f → text e ≡ text f → e ≡ f) → Advances g mid now None → (rows : ℕ) → rows ≡ place - 1 → TellsRows v wanted (state g start).now rows batch
     tells_all law moves rows is = record {
       events = it.events;
       table =

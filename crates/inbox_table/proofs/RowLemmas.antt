@@ -31,7 +31,7 @@ use Rattle.database_layout.specs.Tables.{inbox2, inbox2_index}
 use Rattle.database_layout.specs.declared.layout.Layout.{Layout}
 use Rattle.database_layout.proofs.LayoutLemmas.{same_inbox}
 use Rattle.inbox_table.specs.Version.{HasTable}
-use Rattle.inbox_table.specs.Rows.{IsListed, row_of, rows_from, number_in, block_in}
+use Rattle.inbox_table.specs.Rows.{IsListed, row_of, rows_from, number_in, block_of_event}
 use Rattle.inbox_table.specs.declared.version.Version.{Version}
 use Rattle.inbox_table.specs.declared.version.Version.TheVariants.{One, Two}
 use Rattle.inbox_table.proofs.EventLemmas.{key_is}
@@ -50,7 +50,7 @@ unfolding unary
 cast_whole n = either _ (Int n)
 
 pub cast_stored : (tree n : ℕ) (e : EventValue) → cast_row (inbox2 tree) (row_of Two n e) ≡ row_of Two n e
-cast_stored tree n e = rw (cast_whole (pos n), cast_null, cast_whole (pos (number_in e)), cast_whole (pos (block_in e))) refl
+cast_stored tree n e = rw (cast_whole (pos n), cast_null, cast_whole (pos (number_in e)), cast_whole (pos (block_of_event e))) refl
 
 -- ---- places
 

@@ -10,7 +10,7 @@ use Rattle.sqlite.proofs.Callers.{IsPlain, never_commits, unchanged_then}
 use Rattle.sqlite.proofs.StateLemmas.{survives_weaker}
 use Rattle.inbox_table.specs.Texts.{select_text}
 use Rattle.inbox_table.specs.declared.version.Version.{Version}
-use Rattle.inbox_table.specs.steps.Reads.{HasVersion, IsSame}
+use Rattle.inbox_table.specs.steps.Reads.{HasVersion, IsTableReading}
 use Rattle.inbox_table.proofs.TextLemmas.{select_is}
 
 pub plain_in : (v : Version) (s : State) → HasVersion v s.now.schema → IsPlain (understood s.now.schema (select_text v))
@@ -35,14 +35,14 @@ open_where : (old new : State) → IsUnchanged old new ⊎ IsRolledBack old new 
 open_where old new (inl h) still = h.0.was_open
 open_where old new (inr h) still = h.was_open still
 
-pub kept_same : (old new : State) (P : Trees → Type 0) → Survives old new P → (IsTrue old.is_open → old.now ≡ old.committed) → (HasCleanDisk new → IsUnchanged old new ⊎ IsRolledBack old new) → IsSame old new
+pub kept_same : (old new : State) (P : Trees → Type 0) → Survives old new P → (IsTrue old.is_open → old.now ≡ old.committed) → (HasCleanDisk new → IsUnchanged old new ⊎ IsRolledBack old new) → IsTableReading old new
 kept_same old new P survives settled keeps = record {
   clean = survives.clean;
   was_open = λ clean still. open_where old new (keeps clean) still;
   same = λ clean still. let how = keeps clean in same_where old new (settled (open_where old new how still)) how still;
 }
 
-pub refused_same : (v : Version) (old new : State) (e : Error) (P : Trees → Type 0) → Survives old new P → (IsTrue old.is_open → old.now ≡ old.committed) → (HasCleanDisk new → FailsToQuery (select_text v) [] old new e) → IsSame old new
+pub refused_same : (v : Version) (old new : State) (e : Error) (P : Trees → Type 0) → Survives old new P → (IsTrue old.is_open → old.now ≡ old.committed) → (HasCleanDisk new → FailsToQuery (select_text v) [] old new e) → IsTableReading old new
 refused_same v old new e P survives settled fails = kept_same old new P survives settled (λ clean. not_shown v old new e (fails clean))
 
 -- what a call keeps that comes after calls that changed nothing
@@ -64,5 +64,5 @@ on_weaker (Err y) P Q f p = tt
 pub survives_reading : (v : Version) (old new : State) → HasVersion v old.now.schema → Survives old new (CommitsShowing (select_text v) [] old) → Survives old new (λ _. ⊥)
 survives_reading v old new ours = survives_weaker old new _ _ (λ _ db may. never_commits (select_text v) [] old db (plain_in v old ours) may)
 
-pub is_same : (s : State) → IsSame s s
+pub is_same : (s : State) → IsTableReading s s
 is_same s = record { clean = omega arith; was_open = λ _ still. still; same = λ _ _. (refl, refl) }

@@ -7,7 +7,7 @@ use Rattle.inbox_table.specs.Rows.{IsInbox}
 use Rattle.inbox_table.specs.declared.fault.TableFault.{TableFault}
 use Rattle.inbox_table.specs.declared.fault.TableFault.TheVariants.{Foreign}
 use Rattle.inbox_table.specs.declared.version.Version.TheVariants.{Two}
-use Rattle.inbox_table.specs.steps.Reads.{Tells}
+use Rattle.inbox_table.specs.steps.Reads.{TellsRows}
 use Rattle.inbox_table.specs.steps.Upgrades.{HasAdopted}
 use Rattle.inbox_table.proofs.RowLemmas.{same_length}
 
@@ -25,7 +25,7 @@ loaded_stands old new rows batch it = record { events = it.events; table = it.ad
 pub adopted_any : (keeps : Bool) (old new : State) (rows : ℕ) (batch : List EventValue) → HasAdopted true old new rows batch → HasAdopted keeps old new rows batch
 adopted_any keeps old new rows batch it = record { events = it.events; adopts = it.adopts; count = it.count; kept = λ _. it.kept refl }
 
-pub read_done : (shown : List EventValue → List EventValue) (wanted : EventValue → Bool) (old new : State) (rows n : ℕ) (batch : List EventValue) → ((m : List EventValue) → filter wanted m ≡ shown m) → Tells Two wanted old.now n batch → Stands old.now rows → new.now ≡ old.now → IsTrue new.is_open → IsSettled new
+pub read_done : (shown : List EventValue → List EventValue) (wanted : EventValue → Bool) (old new : State) (rows n : ℕ) (batch : List EventValue) → ((m : List EventValue) → filter wanted m ≡ shown m) → TellsRows Two wanted old.now n batch → Stands old.now rows → new.now ≡ old.now → IsTrue new.is_open → IsSettled new
     → ReadEffect shown rows old new (Ok batch)
 read_done shown wanted old new rows n batch shows tells stood now still settled = record {
   list = (tells.events, tells.table, stood.count ∙ same_length Two old.now stood.events tells.events stood.table tells.table, tells.kept ∙ shows tells.events);

@@ -21,7 +21,7 @@ use Rattle.inbox_table.specs.declared.fault.TableFault.{TableFault}
 use Rattle.inbox_table.specs.declared.fault.TableFault.TheVariants.{Foreign, OutOfMemory, Store}
 use Rattle.inbox_table.specs.declared.version.Version.{Version}
 use Rattle.inbox_table.specs.declared.version.Version.TheVariants.{One, Two}
-use Rattle.inbox_table.specs.steps.Reads.{HasVersion, IsSame, Tells}
+use Rattle.inbox_table.specs.steps.Reads.{HasVersion, IsTableReading, TellsRows}
 use Rattle.inbox_table.specs.steps.Turns.{Beside, IsFilled, IsKeeping, IsTaking, KeepsOthers}
 use Rattle.inbox_table.specs.steps.Upgrades.{Copies, HasAdopted, Refills}
 use Rattle.inbox_table.proofs.HomeLemmas.{form_named, formed, has_name, not_both_versions, one_alone}
@@ -103,12 +103,12 @@ pub no_old : (db : Database) (m : List EventValue) (l : Layout) → HasTable Two
 no_old db m l has is box = not_both_versions box.layout l box.has has (sym box.schema ∙ is)
 
 -- all events of a table of version 1 are those that were read
-pub read_all : (db : Database) (rows : ℕ) (batch : List EventValue) → Tells One (λ _. true) db rows batch → IsOldInbox db batch × ((m : List EventValue) → IsOldInbox db m → batch ≡ m)
+pub read_all : (db : Database) (rows : ℕ) (batch : List EventValue) → TellsRows One (λ _. true) db rows batch → IsOldInbox db batch × ((m : List EventValue) → IsOldInbox db m → batch ≡ m)
 read_all db rows batch it =
     let are : batch ≡ it.events = it.kept ∙ all_wanted it.events in
     (subst (IsOldInbox db) (sym are) it.table, λ m box. are ∙ it.only m box)
 
-pub adopts_old : (l : Layout) (old last : State) (batch : List EventValue) (rows : ℕ) → HasInbox l → old.now.schema ≡ schema_in l → Tells One (λ _. true) old.now rows batch → IsInbox last.now batch → UpgradesTables old.now last.now → IsTrue last.is_open → IsSettled last
+pub adopts_old : (l : Layout) (old last : State) (batch : List EventValue) (rows : ℕ) → HasInbox l → old.now.schema ≡ schema_in l → TellsRows One (λ _. true) old.now rows batch → IsInbox last.now batch → UpgradesTables old.now last.now → IsTrue last.is_open → IsSettled last
     → Adopts old last batch
 adopts_old l old last batch rows has schema tells new tables still settled =
     let all = read_all old.now rows batch tells in
@@ -119,7 +119,7 @@ adopts_old l old last batch rows has schema tells new tables still settled =
     only m (inr box) = (read_all old.now rows batch tells).1 m box
 
 -- and so it is of a table of either version
-pub finds_all : (v : Version) (db : Database) (rows : ℕ) (batch : List EventValue) → HasVersion v db.schema → Tells v (λ _. true) db rows batch → Finds db v batch
+pub finds_all : (v : Version) (db : Database) (rows : ℕ) (batch : List EventValue) → HasVersion v db.schema → TellsRows v (λ _. true) db rows batch → Finds db v batch
 finds_all v db rows batch (l, has, schema) tells =
     let are : batch ≡ tells.events = tells.kept ∙ all_wanted tells.events in
     record { table = subst (IsListed v db) (sym are) tells.table; only = λ m box. are ∙ go v has tells.only m box }
@@ -131,7 +131,7 @@ finds_all v db rows batch (l, has, schema) tells =
     go Two has only m (inr box) = absurd (no_old db m l has schema box)
 
 -- one of version 2 is taken as it is
-pub adopts_new : (l : Layout) (old last : State) (keeps : Bool) (rows : ℕ) (batch : List EventValue) → HasTable Two l → old.now.schema ≡ schema_in l → Tells Two (λ _. keeps) old.now rows batch → last.now ≡ old.now → IsTrue last.is_open → IsSettled last
+pub adopts_new : (l : Layout) (old last : State) (keeps : Bool) (rows : ℕ) (batch : List EventValue) → HasTable Two l → old.now.schema ≡ schema_in l → TellsRows Two (λ _. keeps) old.now rows batch → last.now ≡ old.now → IsTrue last.is_open → IsSettled last
     → HasAdopted keeps old last rows batch
 adopts_new l old last keeps rows batch has schema tells now still settled = record {
   events = tells.events;
@@ -184,7 +184,7 @@ rejects_stranger s fault why = record {
 }
 
 -- the rows aren't those of a list
-pub rejects_rows : (v : Version) (l : Layout) (old mid : State) (fault : TableFault) → HasTable v l → old.now.schema ≡ schema_in l → IsSame old mid → Survives old mid (λ _. ⊥)
+pub rejects_rows : (v : Version) (l : Layout) (old mid : State) (fault : TableFault) → HasTable v l → old.now.schema ≡ schema_in l → IsTableReading old mid → Survives old mid (λ _. ⊥)
     → (HasCleanDisk mid → fault ≡ Foreign → (m : List EventValue) → IsListed v old.now m → ⊥) → Rejects old mid fault
 rejects_rows v l old mid fault has schema same survives none = record {
   foreign = λ clean is m box. go v has (none clean is) m box;
@@ -213,7 +213,7 @@ rejects_store l old new fault schema same store = record {
     not_foreign f (inr is) it = absurd (let e : ◌≡◌ {A = TableFault} Store Foreign = sym is ∙ it in cc)
 
 -- a reading changed nothing, and then the store refused
-pub as_it_was : (old mid new : State) → IsSame old mid → (HasCleanDisk new → HasCleanDisk mid × (IsTrue new.is_open → IsTrue mid.is_open)) → IsAsItWas mid new → IsAsItWas old new
+pub as_it_was : (old mid new : State) → IsTableReading old mid → (HasCleanDisk new → HasCleanDisk mid × (IsTrue new.is_open → IsTrue mid.is_open)) → IsAsItWas mid new → IsAsItWas old new
 as_it_was old mid new same still last clean open_now = let it = still clean in last clean open_now ∙ (same.same it.0 (it.1 open_now)).0
 
 -- a layout has one version at most

@@ -13,7 +13,7 @@ pub record HasSameService (before after : Layout) (old new : Database) : Type 0 
       ≡ old.trees (suc (suc (service_tree before)))
 
 -- the tables are the same, and a service beside the inbox has the rows that it had
-pub record KeepsService (old new : Database) : Type 0 where
+pub record KeepsServiceBeside (old new : Database) : Type 0 where
   pub schema : new.schema ≡ old.schema
   pub service : (l : Layout) → HasService l → old.schema ≡ schema_in l → HasSameService l l old new
 

@@ -10,15 +10,16 @@ use Rattle.attributes.specs.Event.{EventValue}
 use Rattle.inbox.specs.KeyOrder.{key_cmp}
 use Rattle.inbox.specs.Ordered.{append_new}
 use Rattle.database_layout.specs.Layout.{HasInboxForm, IsOurs, has_table}
-use Rattle.inbox_table.specs.Beside.{GainsInbox, KeepsService, UpgradesTables}
+use Rattle.inbox_table.specs.Beside.{GainsInbox, KeepsServiceBeside, UpgradesTables}
 use Rattle.inbox_table.specs.Fault.{IsOfStore}
 use Rattle.inbox_table.specs.Rows.{IsAnyInbox, IsInbox, IsListed, IsOldInbox}
 use Rattle.inbox_table.specs.declared.version.Version.{Version}
 use Rattle.inbox_table.specs.declared.fault.TableFault.{TableFault}
 use Rattle.inbox_table.specs.declared.fault.TableFault.TheVariants.{Foreign}
+pub use Rattle.database_layout.specs.States.{IsAsItWas, IsSettled}
 
 -- what a `Table` shows: its connection, and how many rows it has
-pub record Kept (S : Type 0) : Type 0 where
+pub record KeptTable (S : Type 0) : Type 0 where
   pub conn : Held S
   pub rows : ℕ
 
@@ -31,14 +32,6 @@ pub record Stands (db : Database) (rows : ℕ) : Type 0 where
 -- it does so while the disk gives back what was written and the database is open
 abbrev pub StandsFor : State → ℕ → Type 0
 StandsFor s rows = HasCleanDisk s → IsTrue s.is_open → Stands s.now rows
-
--- while the disk is honest and the database open, it shows what it showed
-abbrev pub IsAsItWas : State → State → Type 0
-IsAsItWas old new = HasCleanDisk new → IsTrue new.is_open → new.now ≡ old.now
-
--- after this a crash leaves the last commit alone
-abbrev pub IsSettled : State → Type 0
-IsSettled s = IsTrue s.is_open → (db : Trees) → s.may_leave db → db ≡ s.now.trees
 
 -- ---- a table is made
 
@@ -61,6 +54,10 @@ pub record Creates (old new : State) : Type 0 where
   -- a crash leaves the table
   pub settled : IsSettled new
 
+-- so it was where it is done
+abbrev pub CreatesIfDone : {A E : Type 0} → State → State → Result A E → Type 0
+CreatesIfDone old new result = HasCleanDisk new → OnOk result (Creates old new)
+
 -- ---- a table is taken over
 
 -- both versions are there, in whatever form
@@ -77,6 +74,10 @@ pub record MayUpgrade (old : Database) (trees : Trees) : Type 0 where
   pub was : IsOldInbox old events
   pub is : IsInbox db events
   pub beside : UpgradesTables old db
+
+-- and so it leaves it, whatever came of it
+abbrev pub LeavesUpgrade : State → State → Type 0
+LeavesUpgrade old new = Survives old new (MayUpgrade old.now)
 
 -- what a taking over of these events does, while the disk gives back what was written
 pub record Adopts (old new : State) (events : List EventValue) : Type 0 where
@@ -129,7 +130,7 @@ pub record MayTake (L : List EventValue) (old : Database) (trees : Trees) : Type
   pub are : trees ≡ db.trees
   pub sound : IsDatabase db
   pub takes : Takes L old db
-  pub beside : KeepsService old db
+  pub beside : KeepsServiceBeside old db
 
 -- events were given to a table with so many: how many it has then
 pub record KeepCall (was is : ℕ) (result : Result ℕ TableFault) : Type 0 where
@@ -144,7 +145,7 @@ pub record KeepEffect (L : List EventValue) (old new : State) (result : Result �
   -- the events are in, so many of them were not there, and a crash leaves them
   pub takes : OnOk result (Takes L old.now new.now)
   pub fresh : IfOk result (AreFresh L old.now)
-  pub beside : OnOk result (KeepsService old.now new.now)
+  pub beside : OnOk result (KeepsServiceBeside old.now new.now)
   pub stays_open : OnOk result (IsTrue new.is_open)
   pub settled : OnOk result (IsSettled new)
   -- refused, the database is as it was
@@ -180,7 +181,7 @@ pub record KeepEachEffect (lists : List (List EventValue)) (old new : State)
   pub takes : OnOk result (Takes (joined lists) old.now new.now)
   pub fresh : IfOk result (λ each. (events : List EventValue) → IsInbox old.now events
       → AreFreshEach events lists each)
-  pub beside : OnOk result (KeepsService old.now new.now)
+  pub beside : OnOk result (KeepsServiceBeside old.now new.now)
   pub stays_open : OnOk result (IsTrue new.is_open)
   pub settled : OnOk result (IsSettled new)
   -- refused, the database is as it was

@@ -2,7 +2,7 @@
 use Rattle.std.specs.Prelude.{◌≡◌, ◌⊎◌, ℕ, List, [], true, false, length, IsTrue}
 use Rattle.sqlite_trees.specs.Tree.{Trees}
 use Rattle.sqlite.specs.Effect.{Database}
-use Rattle.sqlite.specs.State.{State}
+use Rattle.sqlite.specs.State.{State, Survives}
 use Rattle.attributes.specs.Event.{EventValue}
 use Rattle.database_layout.specs.Layout.{has_inbox}
 use Rattle.inbox_table.specs.Calls.{Adopts, Creates, IsAsItWas, IsSettled, IsTold, MayMake, MayUpgrade, Rejects}
@@ -40,3 +40,7 @@ pub record RejectsOpening (old new : State) (fault : TableFault) : Type 0 where
 abbrev pub MayOpen : Database → Trees → Type 0
 MayOpen old trees = ((has_inbox old.schema ≡ false) × MayMake old trees)
     ⊎ ((has_inbox old.schema ≡ true) × MayUpgrade old trees)
+
+-- and so it leaves it, whatever came of it
+abbrev pub LeavesOpening : State → State → Type 0
+LeavesOpening old new = Survives old new (MayOpen old.now)

@@ -14,27 +14,28 @@ use Rattle.database_layout.specs.declared.layout.Layout.{Layout}
 use Rattle.inbox_table.specs.Version.{HasTable}
 use Rattle.inbox_table.specs.declared.version.Version.{Version}
 use Rattle.inbox_table.specs.declared.version.Version.TheVariants.{One, Two}
+pub use Rattle.inbox.specs.Sets.{IsEachOnce}
 
 -- the number in an event's row, and its block: block k has the numbers from 1024 k on, 1,024 of
 -- them
 abbrev pub number_in : EventValue → ℕ
 number_in e = unwrap_or (number_of e) 0
 
-abbrev pub block_in : EventValue → ℕ
-block_in e = number_in e / 1024
+abbrev pub block_of_event : EventValue → ℕ
+block_of_event e = number_in e / 1024
 
 -- the event is one of this source and block
 abbrev pub is_of_block : List ℕ → ℕ → EventValue → Bool
-is_of_block source k e = bytes_eq (source_of e) source && eqb (block_in e) k
+is_of_block source k e = bytes_eq (source_of e) source && eqb (block_of_event e) k
 
 -- the events of a source and block, in the order in which they stand
-abbrev pub block_of : List ℕ → ℕ → List EventValue → List EventValue
-block_of source k events = filter (is_of_block source k) events
+abbrev pub events_of_block : List ℕ → ℕ → List EventValue → List EventValue
+events_of_block source k events = filter (is_of_block source k) events
 
 -- the last values of a row, which version 1 doesn't have
 abbrev pub tail_of : Version → EventValue → Row
 tail_of One e = []
-tail_of Two e = Int (pos (block_in e)) ∷ []
+tail_of Two e = Int (pos (block_of_event e)) ∷ []
 
 -- the row of an event at a place, as the table keeps it: the rowid, which is the place, then the
 -- columns, of which the place itself is kept as NULL
@@ -76,10 +77,6 @@ pub record IsNumbered (e : EventValue) : Type 0 where
 -- each is an event that has a number
 abbrev pub AreNumbered : List EventValue → Type 0
 AreNumbered es = AllByRecursion IsNumbered es
-
--- no event stands twice
-abbrev pub IsEachOnce : List EventValue → Type 0
-IsEachOnce es = append_new key_cmp [] es ≡ es
 
 -- the database has the table in this version, and its rows are those of these events at the places
 -- 1, 2 and so on, each with a number and none of them twice

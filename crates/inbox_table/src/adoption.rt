@@ -5,12 +5,13 @@ ghost use Rattle.sqlite.specs.Held.{state};
 ghost use Rattle.sqlite.specs.State.{HasCleanDisk, Survives};
 ghost use Rattle.attributes.specs.Event.{EventValue};
 ghost use Rattle.database_layout.specs.Layout.{HasInbox2, HasInboxForm, has_inbox, schema_in};
-ghost use Rattle.inbox_table.specs.Calls.{IsTold, MayUpgrade, Rejects, has_both};
+ghost use Rattle.inbox_table.specs.Calls.{IsTold, LeavesUpgrade, Rejects, has_both};
 ghost use Rattle.inbox_table.specs.Rows.{IsInbox, IsOldInbox};
-ghost use Rattle.inbox_table.specs.steps.Reads.{IsSame, Tells};
+ghost use Rattle.inbox_table.specs.steps.Reads.{IsTableReading, TellsRows};
 ghost use Rattle.inbox_table.specs.steps.Upgrades.{HasAdopted};
 ghost use Rattle.inbox_table.specs.declared.fault.TableFault.TheVariants.{Foreign, Store};
 ghost use Rattle.inbox_table.specs.declared.version.Version.TheVariants.{Two};
+ghost use Rattle.database_layout.specs.States.{ShowsCommitIfDone};
 
 use crate::fault::TableFault;
 use crate::reading::{Found, read};
@@ -31,15 +32,14 @@ pub(crate) fn listed_in<S: Alter, W: Wanted>(
     conn: &mut Connection<S>,
     wanted: &W,
 ) -> Result<Found, TableFault>
-    ensures tells { HasCleanDisk (state S.Store conn.new) → IfOk result (λ f. Tells Two
+    ensures tells { HasCleanDisk (state S.Store conn.new) → IfOk result (λ f. TellsRows Two
         (W.wanted wanted.now) (state S.Store conn.old).now f.rows f.events) }
     ensures foreign { HasCleanDisk (state S.Store conn.new) → IfErr result (λ f. f ≡ Foreign
         → (l : List EventValue) → IsInbox (state S.Store conn.old).now l → ⊥) }
-    ensures same { IsSame (state S.Store conn.old) (state S.Store conn.new) }
+    ensures same { IsTableReading (state S.Store conn.old) (state S.Store conn.new) }
     ensures open { HasCleanDisk (state S.Store conn.new)
         → OnOk result (IsTrue (state S.Store conn.new).is_open) }
-    ensures settled { HasCleanDisk (state S.Store conn.new) → OnOk result (
-        (state S.Store conn.new).now ≡ (state S.Store conn.new).committed) }
+    ensures settled { ShowsCommitIfDone (state S.Store conn.new) result }
     ensures survives { Survives (state S.Store conn.old) (state S.Store conn.new) (λ _. ⊥) }
 {
     let Some(layout) = Layout::of(conn.schema()) else {
@@ -111,8 +111,7 @@ pub(crate) fn found_in<S: Alter, W: Watch>(
     ensures missing { has_inbox (state S.Store conn.old).now.schema ≡ false
         → result ≡ Err Foreign }
     ensures both { has_both (state S.Store conn.old).now.schema ≡ true → result ≡ Err Foreign }
-    ensures crash { Survives (state S.Store conn.old) (state S.Store conn.new)
-        (MayUpgrade (state S.Store conn.old).now) }
+    ensures crash { LeavesUpgrade (state S.Store conn.old) (state S.Store conn.new) }
 {
     if !has_inbox(conn.schema()) {
         return Err(TableFault::Foreign);

@@ -4,7 +4,7 @@ ghost use Rattle.std.specs.Prelude.{◌≡◌, true, Err, IsTrue, IfErr, OnOk, O
 ghost use Rattle.sqlite.specs.Held.{state};
 ghost use Rattle.sqlite.specs.State.{HasCleanDisk, Survives};
 ghost use Rattle.database_layout.specs.Layout.{GainsInbox2, has_inbox, schema_in};
-ghost use Rattle.inbox_table.specs.Calls.{Creates, IsAsItWas, MayMake};
+ghost use Rattle.inbox_table.specs.Calls.{Creates, CreatesIfDone, IsAsItWas, MayMake};
 ghost use Rattle.inbox_table.specs.declared.fault.TableFault.TheVariants.{Foreign};
 
 use crate::fault::TableFault;
@@ -15,8 +15,7 @@ use sqlite::{Alter, Connection, Error, ErrorCode};
 fn make<S: Alter>(conn: &mut Connection<S>, before: Layout, after: Layout) -> Result<(), Error>
     requires gains { GainsInbox2 before after }
     requires room { (state S.Store conn.old).now.schema ≡ schema_in before }
-    ensures made { HasCleanDisk (state S.Store conn.new)
-        → OnOk result (Creates (state S.Store conn.old) (state S.Store conn.new)) }
+    ensures made { CreatesIfDone (state S.Store conn.old) (state S.Store conn.new) result }
     ensures same { OnErr result (IsAsItWas (state S.Store conn.old) (state S.Store conn.new)) }
     ensures crash { Survives (state S.Store conn.old) (state S.Store conn.new)
         (MayMake (state S.Store conn.old).now) }
@@ -33,8 +32,7 @@ fn make<S: Alter>(conn: &mut Connection<S>, before: Layout, after: Layout) -> Re
 /// Makes the table, where none of the name is there, of either version, and nothing lies beside it
 /// but a service.
 pub(crate) fn create<S: Alter>(conn: &mut Connection<S>) -> Result<(), TableFault>
-    ensures made { HasCleanDisk (state S.Store conn.new)
-        → OnOk result (Creates (state S.Store conn.old) (state S.Store conn.new)) }
+    ensures made { CreatesIfDone (state S.Store conn.old) (state S.Store conn.new) result }
     ensures there { has_inbox (state S.Store conn.old).now.schema ≡ true → result ≡ Err Foreign }
     ensures foreign { IfErr result (λ f. f ≡ Foreign
         → has_inbox (state S.Store conn.old).now.schema ≡ true) }

@@ -2,10 +2,11 @@
 
 ghost use Rattle.std.specs.Prelude.{◌≡◌, ◌<◌, ◌≤◌, ◌+◌, ◌^◌, [], sum, length, IsTrue, IfOk, IfErr, OnErr};
 ghost use Rattle.sqlite.specs.Held.{state};
-ghost use Rattle.sqlite.specs.State.{HasCleanDisk, Survives, KeepsCommit};
+ghost use Rattle.sqlite.specs.State.{HasCleanDisk, Survives};
 ghost use Rattle.inbox_table.specs.Calls.{KeepEachEffect, MayTake, Stands, joined};
 ghost use Rattle.inbox_table.specs.Fault.{IsOfStore};
 ghost use Rattle.inbox_table.specs.steps.Turns.{IsKeepingEach};
+ghost use Rattle.database_layout.specs.States.{KeepsCommitIfRefused};
 
 use crate::fault::TableFault;
 use crate::statement::put_all;
@@ -51,10 +52,8 @@ fn put_lists<S: Alter>(
     ensures few { IfOk result (λ each. sum each ≤ length (joined lists.now)) }
     ensures one_each { IfOk result (λ each. length each ≡ length lists.now) }
     ensures fault { IfErr result IsOfStore }
-    ensures failed { HasCleanDisk (state S.Store tx.new.conn.now)
-        → IsTrue (state S.Store tx.old.conn.now).in_transaction
-        → OnErr result (KeepsCommit
-        (state S.Store tx.old.conn.now) (state S.Store tx.new.conn.now)) }
+    ensures failed { KeepsCommitIfRefused (state S.Store tx.old.conn.now)
+        (state S.Store tx.new.conn.now) result }
     ensures survives { Survives
         (state S.Store tx.old.conn.now) (state S.Store tx.new.conn.now) (λ _. ⊥) }
 {

@@ -2,10 +2,10 @@
 
 ghost use Rattle.std.specs.Prelude.{◌≡◌, true, List, length, IfErr, IfOk, IsErrAnd};
 ghost use Rattle.sqlite.specs.Held.{state};
-ghost use Rattle.sqlite.specs.State.{HasCleanDisk, Survives};
+ghost use Rattle.sqlite.specs.State.{HasCleanDisk};
 ghost use Rattle.attributes.specs.Event.{EventValue};
 ghost use Rattle.inbox_table.specs.Calls.{has_both};
-ghost use Rattle.inbox_table.specs.Opening.{MayOpen, Opens, RejectsOpening};
+ghost use Rattle.inbox_table.specs.Opening.{LeavesOpening, Opens, RejectsOpening};
 ghost use Rattle.inbox_table.specs.declared.fault.TableFault.TheVariants.{Foreign};
 
 use crate::adoption::found_in;
@@ -37,10 +37,8 @@ impl<S: Alter> Table<S> {
             RejectsOpening (state S.Store conn) (state S.Store n.conn) n.fault) }
         ensures both { has_both (state S.Store conn).now.schema ≡ true
             → IsErrAnd result (λ n. n.fault ≡ Foreign) }
-        ensures crash { IfOk result (λ l. Survives (state S.Store conn)
-            (state S.Store l.table.conn) (MayOpen (state S.Store conn).now)) }
-        ensures crash_refused { IfErr result (λ n. Survives (state S.Store conn)
-            (state S.Store n.conn) (MayOpen (state S.Store conn).now)) }
+        ensures crash { IfOk result (λ l. LeavesOpening (state S.Store conn) (state S.Store l.table.conn)) }
+        ensures crash_refused { IfErr result (λ n. LeavesOpening (state S.Store conn) (state S.Store n.conn)) }
     {
         if !has_inbox(conn.schema()) {
             let table = match Table::create(alloc, conn) {
@@ -77,10 +75,8 @@ impl<S: Alter> Table<S> {
             RejectsOpening (state S.Store conn) (state S.Store n.conn) n.fault) }
         ensures both { has_both (state S.Store conn).now.schema ≡ true
             → IsErrAnd result (λ n. n.fault ≡ Foreign) }
-        ensures crash { IfOk result (λ t. Survives (state S.Store conn)
-            (state S.Store t.conn) (MayOpen (state S.Store conn).now)) }
-        ensures crash_refused { IfErr result (λ n. Survives (state S.Store conn)
-            (state S.Store n.conn) (MayOpen (state S.Store conn).now)) }
+        ensures crash { IfOk result (λ t. LeavesOpening (state S.Store conn) (state S.Store t.conn)) }
+        ensures crash_refused { IfErr result (λ n. LeavesOpening (state S.Store conn) (state S.Store n.conn)) }
     {
         if !has_inbox(conn.schema()) {
             return Table::create(alloc, conn);

@@ -8,8 +8,9 @@ ghost use Rattle.sqlite.specs.State.{HasCleanDisk, IsRolledBack, IsUnchanged, Su
 ghost use Rattle.attributes.specs.Event.{EventValue};
 ghost use Rattle.inbox_table.specs.Rows.{IsListed, IsNumbered, shown_of};
 ghost use Rattle.inbox_table.specs.Texts.{select_text};
-ghost use Rattle.inbox_table.specs.steps.Reads.{HasVersion, IsAtStart, IsSame, Tells};
+ghost use Rattle.inbox_table.specs.steps.Reads.{HasVersion, IsAtStart, IsTableReading, TellsRows};
 ghost use Rattle.inbox_table.specs.declared.fault.TableFault.TheVariants.{Foreign, OutOfMemory};
+ghost use Rattle.database_layout.specs.States.{ShowsCommitIfDone};
 
 use crate::fault::TableFault;
 use crate::row::event_of;
@@ -89,7 +90,7 @@ fn read_rows<S: Alter, W: Wanted>(
     requires { HasCleanDisk (state S.Store rows.old.conn.now)
         → IsAtStart version S.Store rows.old.conn.now }
     ensures same_reference { rows.new.conn.ghost_name ≡ rows.old.conn.ghost_name }
-    ensures tells { HasCleanDisk (state S.Store rows.new.conn.now) → IfOk result (λ f. Tells version
+    ensures tells { HasCleanDisk (state S.Store rows.new.conn.now) → IfOk result (λ f. TellsRows version
         (W.wanted wanted.now) (state S.Store rows.old.conn.now).now f.rows f.events) }
     ensures foreign { HasCleanDisk (state S.Store rows.new.conn.now) → IfErr result (λ f.
         f ≡ Foreign → (l : List EventValue)
@@ -142,15 +143,14 @@ pub(crate) fn read<S: Alter, W: Wanted>(
     wanted: &W,
 ) -> Result<Found, TableFault>
     requires { HasVersion version (state S.Store conn.old).now.schema }
-    ensures tells { HasCleanDisk (state S.Store conn.new) → IfOk result (λ f. Tells version
+    ensures tells { HasCleanDisk (state S.Store conn.new) → IfOk result (λ f. TellsRows version
         (W.wanted wanted.now) (state S.Store conn.old).now f.rows f.events) }
     ensures foreign { HasCleanDisk (state S.Store conn.new) → IfErr result (λ f. f ≡ Foreign
         → (l : List EventValue) → IsListed version (state S.Store conn.old).now l → ⊥) }
-    ensures same { IsSame (state S.Store conn.old) (state S.Store conn.new) }
+    ensures same { IsTableReading (state S.Store conn.old) (state S.Store conn.new) }
     ensures open { HasCleanDisk (state S.Store conn.new)
         → OnOk result (IsTrue (state S.Store conn.new).is_open) }
-    ensures settled { HasCleanDisk (state S.Store conn.new) → OnOk result (
-        (state S.Store conn.new).now ≡ (state S.Store conn.new).committed) }
+    ensures settled { ShowsCommitIfDone (state S.Store conn.new) result }
     ensures survives { Survives (state S.Store conn.old) (state S.Store conn.new) (λ _. ⊥) }
 {
     let _schema = conn.schema();

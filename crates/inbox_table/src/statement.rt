@@ -3,11 +3,12 @@
 ghost use Rattle.std.specs.Prelude.{◌≡◌, ◌<◌, ◌≤◌, ◌+◌, ◌^◌, ◌%◌, pos, [], ◌∷◌, length, IsTrue, IfOk, IfErr, OnOk, OnErr, if◌then◌else◌};
 ghost use Rattle.sqlite_value.specs.declared.value.Value.TheVariants.{Int, Text as Words};
 ghost use Rattle.sqlite.specs.Held.{state};
-ghost use Rattle.sqlite.specs.State.{HasCleanDisk, Survives, KeepsCommit, ExecutesInside};
+ghost use Rattle.sqlite.specs.State.{HasCleanDisk, Survives, ExecutesInside};
 ghost use Rattle.inbox_table.specs.Calls.{IsTold, KeepEffect, MayTake, Stands};
 ghost use Rattle.inbox_table.specs.Fault.{IsOfStore};
 ghost use Rattle.inbox_table.specs.Texts.{insert_text};
 ghost use Rattle.inbox_table.specs.steps.Turns.{IsKeeping, Puts};
+ghost use Rattle.database_layout.specs.States.{KeepsCommitIfRefused};
 
 use crate::fault::TableFault;
 use crate::listed::Listed;
@@ -57,10 +58,8 @@ fn put<S: Alter>(tx: &mut Transaction<'_, S>, place: u64, event: &Sequenced) -> 
         → IsTrue (state S.Store tx.old.conn.now).in_transaction
         → IfOk result (Puts place event.now
         (state S.Store tx.old.conn.now) (state S.Store tx.new.conn.now)) }
-    ensures failed { HasCleanDisk (state S.Store tx.new.conn.now)
-        → IsTrue (state S.Store tx.old.conn.now).in_transaction
-        → OnErr result (KeepsCommit
-        (state S.Store tx.old.conn.now) (state S.Store tx.new.conn.now)) }
+    ensures failed { KeepsCommitIfRefused (state S.Store tx.old.conn.now)
+        (state S.Store tx.new.conn.now) result }
     ensures survives { Survives
         (state S.Store tx.old.conn.now) (state S.Store tx.new.conn.now) (λ _. ⊥) }
 {
@@ -114,10 +113,8 @@ pub(crate) fn put_all<S: Alter, E: Listed, W: Watch>(
         (state S.Store tx.old.conn.now) (state S.Store tx.new.conn.now)) }
     ensures few { IfOk result (λ fresh. fresh ≤ length (E.listed events.now)) }
     ensures told { OnOk result (IsTold (W.told watch.now) (length (E.listed events.now))) }
-    ensures failed { HasCleanDisk (state S.Store tx.new.conn.now)
-        → IsTrue (state S.Store tx.old.conn.now).in_transaction
-        → OnErr result (KeepsCommit
-        (state S.Store tx.old.conn.now) (state S.Store tx.new.conn.now)) }
+    ensures failed { KeepsCommitIfRefused (state S.Store tx.old.conn.now)
+        (state S.Store tx.new.conn.now) result }
     ensures survives { Survives
         (state S.Store tx.old.conn.now) (state S.Store tx.new.conn.now) (λ _. ⊥) }
 {

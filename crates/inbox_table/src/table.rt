@@ -5,8 +5,8 @@ ghost use Rattle.sqlite.specs.Held.{state};
 ghost use Rattle.sqlite.specs.State.{HasCleanDisk, Survives};
 ghost use Rattle.attributes.specs.Event.{EventValue};
 ghost use Rattle.database_layout.specs.Layout.{has_inbox};
-ghost use Rattle.inbox_table.specs.Calls.{Adopts, Creates, IsAsItWas, IsTold, KeepCall, KeepEachCall, KeepEachEffect, KeepEffect, MayMake, MayTake, MayUpgrade, ReadEffect, Rejects, StandsFor, has_both, joined};
-ghost use Rattle.inbox_table.specs.Rows.{block_of};
+ghost use Rattle.inbox_table.specs.Calls.{Adopts, Creates, IsAsItWas, IsTold, KeepCall, KeepEachCall, KeepEachEffect, KeepEffect, LeavesUpgrade, MayMake, MayTake, ReadEffect, Rejects, StandsFor, has_both, joined};
+ghost use Rattle.inbox_table.specs.Rows.{events_of_block};
 ghost use Rattle.inbox_table.specs.declared.fault.TableFault.TheVariants.{Foreign};
 
 use crate::adoption::{found_in, listed_in};
@@ -51,12 +51,12 @@ pub struct Loaded<S: Alter> {
 
 impl<S: Alter> Model for Table<S> {
     ghost use Rattle.sqlite.specs.Held.{state};
-    ghost use Rattle.inbox_table.specs.Calls.{Kept, StandsFor};
-    ghost use Rattle.inbox_table.specs.Codes.{kept_code};
+    ghost use Rattle.inbox_table.specs.Calls.{KeptTable, StandsFor};
+    ghost use Rattle.inbox_table.specs.Codes.{kept_table_code};
 
-    ghost Value = { Kept S };
+    ghost Value = { KeptTable S };
 
-    ghost coded = { kept_code S.code };
+    ghost coded = { kept_table_code S.code };
 
     ghost view = { λ t. record { conn = t.conn; rows = t.rows } };
 
@@ -130,10 +130,8 @@ impl<S: Alter> Table<S> {
             → IsErrAnd result (λ n. n.fault ≡ Foreign) }
         ensures both { has_both (state S.Store conn).now.schema ≡ true
             → IsErrAnd result (λ n. n.fault ≡ Foreign) }
-        ensures crash { IfOk result (λ l. Survives (state S.Store conn)
-            (state S.Store l.table.conn) (MayUpgrade (state S.Store conn).now)) }
-        ensures crash_refused { IfErr result (λ n. Survives
-            (state S.Store conn) (state S.Store n.conn) (MayUpgrade (state S.Store conn).now)) }
+        ensures crash { IfOk result (λ l. LeavesUpgrade (state S.Store conn) (state S.Store l.table.conn)) }
+        ensures crash_refused { IfErr result (λ n. LeavesUpgrade (state S.Store conn) (state S.Store n.conn)) }
     {
         let mut conn = conn;
         match found_in(alloc, &mut conn, true, &Unwatched) {
@@ -160,10 +158,8 @@ impl<S: Alter> Table<S> {
             → IsErrAnd result (λ n. n.fault ≡ Foreign) }
         ensures both { has_both (state S.Store conn).now.schema ≡ true
             → IsErrAnd result (λ n. n.fault ≡ Foreign) }
-        ensures crash { IfOk result (λ t. Survives (state S.Store conn)
-            (state S.Store t.conn) (MayUpgrade (state S.Store conn).now)) }
-        ensures crash_refused { IfErr result (λ n. Survives
-            (state S.Store conn) (state S.Store n.conn) (MayUpgrade (state S.Store conn).now)) }
+        ensures crash { IfOk result (λ t. LeavesUpgrade (state S.Store conn) (state S.Store t.conn)) }
+        ensures crash_refused { IfErr result (λ n. LeavesUpgrade (state S.Store conn) (state S.Store n.conn)) }
     {
         let mut conn = conn;
         match found_in(alloc, &mut conn, false, &Unwatched) {
@@ -272,7 +268,7 @@ impl<S: Alter> Table<S> {
     /// It is refused as [`Table::load`] is.
     pub fn block(&mut self, source: &str, k: u64) -> Result<Batch, TableFault>
         ensures effect { HasCleanDisk (state S.Store self.new.conn)
-            → ReadEffect (block_of source.now k) self.old.rows
+            → ReadEffect (events_of_block source.now k) self.old.rows
             (state S.Store self.old.conn) (state S.Store self.new.conn) result }
         ensures rows { self.new.rows ≡ self.old.rows }
         ensures crash { Survives

@@ -2,11 +2,12 @@
 
 ghost use Rattle.std.specs.Prelude.{◌≡◌, ◌<◌, ◌^◌, true, length, IsTrue, IfErr, IfOk, OnErr, OnOk};
 ghost use Rattle.sqlite.specs.Held.{state};
-ghost use Rattle.sqlite.specs.State.{HasCleanDisk, KeepsCommit, Survives};
+ghost use Rattle.sqlite.specs.State.{HasCleanDisk, Survives};
 ghost use Rattle.database_layout.specs.Layout.{HasInbox, schema_in};
-ghost use Rattle.inbox_table.specs.Calls.{IsAsItWas, IsTold, MayUpgrade, Rejects};
+ghost use Rattle.inbox_table.specs.Calls.{IsAsItWas, IsTold, LeavesUpgrade, MayUpgrade, Rejects};
 ghost use Rattle.inbox_table.specs.Rows.{IsOldInbox};
 ghost use Rattle.inbox_table.specs.steps.Upgrades.{Copies, HasAdopted, Refills};
+ghost use Rattle.database_layout.specs.States.{KeepsCommitIfRefused, WasOpen};
 
 use crate::fault::TableFault;
 use crate::reading::{Found, read};
@@ -38,9 +39,8 @@ fn refill<S: Alter, W: Watch>(
         → OnOk result (Refills events.now
         (state S.Store tx.old.conn.now) (state S.Store tx.new.conn.now)) }
     ensures told { OnOk result (IsTold (W.told watch.now) (length events.now)) }
-    ensures failed { HasCleanDisk (state S.Store tx.new.conn.now)
-        → IsTrue (state S.Store tx.old.conn.now).in_transaction → OnErr result (KeepsCommit
-        (state S.Store tx.old.conn.now) (state S.Store tx.new.conn.now)) }
+    ensures failed { KeepsCommitIfRefused (state S.Store tx.old.conn.now)
+        (state S.Store tx.new.conn.now) result }
     ensures survives { Survives
         (state S.Store tx.old.conn.now) (state S.Store tx.new.conn.now) (λ _. ⊥) }
 {
@@ -66,8 +66,7 @@ fn copy<S: Alter, W: Watch>(
         → IsOldInbox (state S.Store conn.old).now events.now
         → OnOk result (Copies events.now (state S.Store conn.old).now (state S.Store conn.new)) }
     ensures told { OnOk result (IsTold (W.told watch.now) (length events.now)) }
-    ensures was_open { HasCleanDisk (state S.Store conn.new)
-        → IsTrue (state S.Store conn.new).is_open → IsTrue (state S.Store conn.old).is_open }
+    ensures was_open { WasOpen (state S.Store conn.old) (state S.Store conn.new) }
     ensures same { OnErr result (IsAsItWas (state S.Store conn.old) (state S.Store conn.new)) }
     ensures crash { Survives (state S.Store conn.old) (state S.Store conn.new) (λ trees.
         IsOldInbox (state S.Store conn.old).now events.now
@@ -95,8 +94,7 @@ pub(crate) fn upgrade<S: Alter, W: Watch>(
         (state S.Store conn.old) (state S.Store conn.new) f.rows f.events) }
     ensures told { IfOk result (λ f. IsTold (W.told watch.now) (length f.events)) }
     ensures rejects { IfErr result (Rejects (state S.Store conn.old) (state S.Store conn.new)) }
-    ensures crash { Survives (state S.Store conn.old) (state S.Store conn.new)
-        (MayUpgrade (state S.Store conn.old).now) }
+    ensures crash { LeavesUpgrade (state S.Store conn.old) (state S.Store conn.new) }
 {
     let found = match read(alloc, conn, Version::One, &Each { keeps: true }) {
         Ok(found) => found,

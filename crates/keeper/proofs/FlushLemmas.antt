@@ -4,14 +4,14 @@ use Rattle.std.specs.Prelude.{IsSome, IsTrue, min}
 use Rattle.sqlite.specs.Held.{Held}
 use Rattle.sqlite.specs.State.{State, HasCleanDisk}
 use Rattle.atomic_table.specs.Seated.{TableId}
-use Rattle.inbox_table.specs.Calls.{Kept}
-use Rattle.site_lock.specs.Pass.{Shown, leaves}
+use Rattle.inbox_table.specs.Calls.{KeptTable}
+use Rattle.site_lock.specs.Pass.{ShownPass, leaves}
 use Rattle.keeper.proofs.GatherLemmas.{pages_leave}
 use Rattle.keeper.specs.Flush.{Flushes, Flushing, Turns, max_pages}
 use Rattle.keeper.specs.Keep.{AsksPages, Grows, max_page}
 use Rattle.keeper.specs.declared.fault.KeepFault.{KeepFault}
 
-module _ {S : Type 0} (state : Held S → State) (site : TableId) (k l : Kept S) (p q : Shown) (fault : Option KeepFault) (none : fault ≡ None) (asked : AsksPages max_pages k.rows p q) (list : Grows (state k.conn) (state l.conn)) where
+module _ {S : Type 0} (state : Held S → State) (site : TableId) (k l : KeptTable S) (p q : ShownPass) (fault : Option KeepFault) (none : fault ≡ None) (asked : AsksPages max_pages k.rows p q) (list : Grows (state k.conn) (state l.conn)) where
   abbrev pub before : Flushing S
   before = record { site = site; keeper = k; pass = p; fault = fault }
 

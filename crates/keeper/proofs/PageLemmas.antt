@@ -10,8 +10,8 @@ use Rattle.sqlite.specs.State.{State, HasCleanDisk, Survives}
 use Rattle.attributes.specs.Event.{EventValue}
 use Rattle.inbox.specs.KeyOrder.{key_cmp}
 use Rattle.inbox.specs.Ordered.{append_new}
-use Rattle.inbox_table.specs.Beside.{KeepsService}
-use Rattle.inbox_table.specs.Calls.{AreFresh, KeepCall, KeepEffect, Kept, MayTake, Takes}
+use Rattle.inbox_table.specs.Beside.{KeepsServiceBeside}
+use Rattle.inbox_table.specs.Calls.{AreFresh, KeepCall, KeepEffect, KeptTable, MayTake, Takes}
 use Rattle.inbox_table.specs.Fault.{IsOfStore}
 use Rattle.inbox_table.specs.Rows.{IsInbox}
 use Rattle.inbox_table.specs.declared.fault.TableFault.{TableFault}
@@ -92,7 +92,7 @@ still_grows old new was_clean was_open same b crash = record {
   was_clean = was_clean;
   was_open = was_open;
   list = λ clean is_open held box. ([], subst (λ d. IsInbox d (held ++ [])) (sym (same clean is_open)) (subst (IsInbox old.now) (sym (append-nil held)) box));
-  beside = λ clean is_open. subst (KeepsService old.now) (sym (same clean is_open)) (keeps_none old.now);
+  beside = λ clean is_open. subst (KeepsServiceBeside old.now) (sym (same clean is_open)) (keeps_none old.now);
   survives = took_survives old new b crash;
 }
 
@@ -109,7 +109,7 @@ loaded_first s rows events db box same count = record {
 
 -- what a table takes comes behind what it had
 pub taken_grows : (old new : State) (b : List EventValue) → (HasCleanDisk new → HasCleanDisk old) → (HasCleanDisk new → IsTrue new.is_open → IsTrue old.is_open)
-    → (HasCleanDisk new → Takes b old.now new.now) → (HasCleanDisk new → KeepsService old.now new.now)
+    → (HasCleanDisk new → Takes b old.now new.now) → (HasCleanDisk new → KeepsServiceBeside old.now new.now)
     → Survives old new (λ trees. IsTrue old.is_open → MayTake b old.now trees) → Grows old new
 taken_grows old new b was_clean was_open takes beside crash = record {
   was_clean = was_clean;
@@ -169,7 +169,7 @@ rest_crash old new rows A b is once first s = survives_as old new _ _ s (λ clea
     })
 
 -- what a table took came to be kept, and what it refused didn't
-module _ {S : Type 0} (state : Held S → State) (k l : Kept S) (b : List EventValue)
+module _ {S : Type 0} (state : Held S → State) (k l : KeptTable S) (b : List EventValue)
     (crash : Survives (state k.conn) (state l.conn) (λ trees. IsTrue (state k.conn).is_open → MayTake b (state k.conn).now trees)) where
   was_clean : HasCleanDisk (state l.conn) → HasCleanDisk (state k.conn)
   was_clean clean = omega (arith, crash.clean, clean)
@@ -241,7 +241,7 @@ module _ {S : Type 0} (state : Held S → State) (k l : Kept S) (b : List EventV
     }
 
 -- nothing was asked of the table
-pub pages_unasked : {S : Type 0} (state : Held S → State) (k : Kept S) (most : ℕ) (A B others : List EventValue) (why : KeepFault) → B ≡ A ++ others → KeepsUp (state k.conn) k.rows A
+pub pages_unasked : {S : Type 0} (state : Held S → State) (k : KeptTable S) (most : ℕ) (A B others : List EventValue) (why : KeepFault) → B ≡ A ++ others → KeepsUp (state k.conn) k.rows A
     → why ≡ keep.OutOfMemory → KeepsPages state most k k B (Err why)
 pages_unasked state k most A B others why added first is = record {
   keeps = record { list = grows_none (state k.conn); beside = λ clean. tt; settled = λ clean. tt; mark_same = refl; same = λ clean is_open. refl; known = λ f. (let bad : keep.OutOfMemory ≡ keep.Foreign = sym is ∙ f in cc) };

@@ -3,9 +3,9 @@ use Rattle.std.specs.Prelude.{◌≡◌, ◌+◌, ◌-◌, ◌*◌, ◌≤◌, �
 use Rattle.sqlite.specs.Held.{Held}
 use Rattle.sqlite.specs.State.{State, HasCleanDisk}
 use Rattle.atomic_table.specs.Seated.{TableId}
-use Rattle.inbox_table.specs.Calls.{Kept}
+use Rattle.inbox_table.specs.Calls.{KeptTable}
 use Rattle.turn_lock.specs.History.{StartsWith}
-use Rattle.site_lock.specs.Pass.{IsSame, Shown, leaves}
+use Rattle.site_lock.specs.Pass.{IsSamePass, ShownPass, leaves}
 use Rattle.keeper.specs.Keep.{AsksPages, Grows, max_page}
 use Rattle.keeper.specs.declared.fault.KeepFault.{KeepFault}
 
@@ -16,8 +16,8 @@ max_pages = 10
 -- the shared site, the keeper as its table, the pass, and the refusal of a step, if one came
 pub record Flushing (S : Type 0) : Type 0 where
   pub site : TableId
-  pub keeper : Kept S
-  pub pass : Shown
+  pub keeper : KeptTable S
+  pub pass : ShownPass
   pub fault : Option KeepFault
 
 module _ {S : Type 0} (state : Held S → State) where
@@ -26,7 +26,7 @@ module _ {S : Type 0} (state : Held S → State) where
   -- open but for a refusal, and after one all stays
   pub record Flushes (f g : Flushing S) : Type 0 where
     pub site : g.site ≡ f.site
-    pub same : IsSame f.pass g.pass
+    pub same : IsSamePass f.pass g.pass
     pub splits : g.pass.splits ≡ f.pass.splits
     pub seen : StartsWith g.pass.seen f.pass.seen
     pub mark : f.keeper.rows ≤ g.keeper.rows

@@ -6,8 +6,8 @@ use Rattle.sqlite.specs.Effect.{Database, IsDatabase}
 use Rattle.sqlite.specs.Held.{Held}
 use Rattle.sqlite.specs.State.{State, HasCleanDisk, Survives}
 use Rattle.attributes.specs.Event.{EventValue}
-use Rattle.inbox_table.specs.Beside.{KeepsService}
-use Rattle.inbox_table.specs.Calls.{IsSettled, Kept}
+use Rattle.inbox_table.specs.Beside.{KeepsServiceBeside}
+use Rattle.inbox_table.specs.Calls.{IsSettled, KeptTable}
 use Rattle.inbox_table.specs.Rows.{IsInbox}
 use Rattle.site.specs.Machine.{call}
 use Rattle.site.specs.declared.call.Call.{Call}
@@ -17,7 +17,7 @@ use Rattle.site.specs.declared.call.Reply.{Reply}
 use Rattle.site.specs.declared.call.Reply.TheVariants.{Paged, Refused}
 use Rattle.turn_lock.specs.declared.machine.Entry.{Entry}
 use Rattle.turn_lock.specs.History.{entry}
-use Rattle.site_lock.specs.Pass.{Made, Shown}
+use Rattle.site_lock.specs.Pass.{Made, ShownPass}
 use Rattle.keeper.specs.declared.fault.KeepFault.{KeepFault}
 use Rattle.keeper.specs.declared.fault.KeepFault.TheVariants.{Foreign}
 
@@ -38,31 +38,31 @@ pub record HasAll (s : State) (rows : ℕ) (arrivals : List EventValue) : Type 0
   pub count : rows ≡ length arrivals
 
 -- from p to q the pass made one call: it asked for a page of the arrivals after the first so many
-abbrev pub Asks : ℕ → Shown → Shown → Type 0
-Asks rows p q = (reply : Reply) × Made p q (call (command.Fresh rows max_page) reply)
+abbrev pub AsksFresh : ℕ → ShownPass → ShownPass → Type 0
+AsksFresh rows p q = (reply : Reply) × Made p q (call (command.Fresh rows max_page) reply)
 
 -- it asked so many times, for page after page, and made no other call
-abbrev pub AsksTimes : ℕ → ℕ → Shown → Shown → Type 0
+abbrev pub AsksTimes : ℕ → ℕ → ShownPass → ShownPass → Type 0
 AsksTimes zero rows p q = q ≡ p
-AsksTimes (suc times) rows p q = (between : Shown) × AsksTimes times rows p between
-    × Asks (rows + max_page * times) between q
+AsksTimes (suc times) rows p q = (between : ShownPass) × AsksTimes times rows p between
+    × AsksFresh (rows + max_page * times) between q
 
 -- it did so once or more, so many times at most
-abbrev pub AsksPages : ℕ → ℕ → Shown → Shown → Type 0
+abbrev pub AsksPages : ℕ → ℕ → ShownPass → ShownPass → Type 0
 AsksPages pages rows p q =
     (times : ℕ) × (1 ≤ times) × (times ≤ pages) × AsksTimes times rows p q
 
 -- the last call of the pass had this reply
-abbrev pub EndsWith : Shown → Reply → Type 0
-EndsWith p reply = (before : List (Entry Call)) × (command : Command)
+abbrev pub EndsWithReply : ShownPass → Reply → Type 0
+EndsWithReply p reply = (before : List (Entry Call)) × (command : Command)
     × (p.mine ≡ before ++ entry p.number (call command reply) ∷ [])
 
 -- it got a page, or was refused
-abbrev pub EndsPaged : Shown → Type 0
-EndsPaged p = (events : List EventValue) × EndsWith p (Paged events)
+abbrev pub EndsPaged : ShownPass → Type 0
+EndsPaged p = (events : List EventValue) × EndsWithReply p (Paged events)
 
-abbrev pub EndsRefused : Shown → Type 0
-EndsRefused p = (taken : ℕ) × (fresh : ℕ) × EndsWith p (Refused taken fresh)
+abbrev pub EndsShort : ShownPass → Type 0
+EndsShort p = (taken : ℕ) × (fresh : ℕ) × EndsWithReply p (Refused taken fresh)
 
 -- these are the trees of a database that has whatever events the table had, and more behind them or
 -- none; what lies beside the table is as it was
@@ -72,7 +72,7 @@ pub record MayGrow (old : Database) (trees : Trees) : Type 0 where
   pub sound : IsDatabase db
   pub list : (held : List EventValue) → IsInbox old held
       → (more : List EventValue) × IsInbox db (held ++ more)
-  pub beside : KeepsService old db
+  pub beside : KeepsServiceBeside old db
 
 -- whatever events the table had, it has them, and more behind them or none, and what lies beside it
 -- is as it was, after a refusal too; this is so while the disk gives back what was written and the
@@ -83,7 +83,7 @@ pub record Grows (old new : State) : Type 0 where
   pub was_open : HasCleanDisk new → IsTrue new.is_open → IsTrue old.is_open
   pub list : HasCleanDisk new → IsTrue new.is_open → (held : List EventValue)
       → IsInbox old.now held → (more : List EventValue) × IsInbox new.now (held ++ more)
-  pub beside : HasCleanDisk new → IsTrue new.is_open → KeepsService old.now new.now
+  pub beside : HasCleanDisk new → IsTrue new.is_open → KeepsServiceBeside old.now new.now
   pub survives : Survives old new (λ trees. IsTrue old.is_open → MayGrow old.now trees)
 
 -- these are the trees of a database that has the first so many of the arrivals, and behind them the
@@ -94,7 +94,7 @@ pub record MayKeep (most rows : ℕ) (arrivals : List EventValue) (old : Databas
   pub are : trees ≡ db.trees
   pub sound : IsDatabase db
   pub first : HasFirst db (rows + min most (length arrivals - rows)) arrivals
-  pub beside : KeepsService old db
+  pub beside : KeepsServiceBeside old db
 
 -- and these those of one that has them all
 pub record MayKeepAll (arrivals : List EventValue) (old : Database) (trees : Trees) : Type 0 where
@@ -102,16 +102,16 @@ pub record MayKeepAll (arrivals : List EventValue) (old : Database) (trees : Tre
   pub are : trees ≡ db.trees
   pub sound : IsDatabase db
   pub table : IsInbox db arrivals
-  pub beside : KeepsService old db
+  pub beside : KeepsServiceBeside old db
 
 module _ {S : Type 0} (state : Held S → State) where
   -- a keeper k came to be l in keeping, or was refused
-  pub record Keeps {T : Type 0} (k l : Kept S) (result : Result T KeepFault) : Type 0 where
+  pub record Keeps {T : Type 0} (k l : KeptTable S) (result : Result T KeepFault) : Type 0 where
     -- whatever it comes to, the list only grows, and a crash leaves no less
     pub list : Grows (state k.conn) (state l.conn)
     -- kept, what lies beside the table is as it was, and a crash leaves just that
     pub beside : HasCleanDisk (state l.conn)
-        → OnOk result (KeepsService (state k.conn).now (state l.conn).now)
+        → OnOk result (KeepsServiceBeside (state k.conn).now (state l.conn).now)
     pub settled : HasCleanDisk (state l.conn) → OnOk result (IsSettled (state l.conn))
     -- refused, the mark stays, and the database is as it was
     pub mark_same : OnErr result (l.rows ≡ k.rows)
@@ -121,7 +121,7 @@ module _ {S : Type 0} (state : Held S → State) where
 
   -- it did so with the arrivals behind its mark, with `most` of them at most, and the answer is how
   -- many they were; the table has the first of them, and a crash leaves it with these or without
-  pub record KeepsPages (most : ℕ) (k l : Kept S) (arrivals : List EventValue)
+  pub record KeepsPages (most : ℕ) (k l : KeptTable S) (arrivals : List EventValue)
       (result : Result ℕ KeepFault) : Type 0 where
     pub keeps : Keeps k l result
     pub first : KeepsUp (state l.conn) l.rows arrivals

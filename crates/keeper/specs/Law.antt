@@ -9,7 +9,7 @@ use Rattle.site.specs.declared.call.Command.TheVariants as command
 use Rattle.site.specs.declared.call.Reply.TheVariants.{Paged}
 use Rattle.turn_lock.specs.History.{StartsWith}
 use Rattle.turn_lock.specs.declared.machine.Entry.{Entry}
-use Rattle.site_lock.specs.Pass.{Made, Shown, leave, leaves}
+use Rattle.site_lock.specs.Pass.{Made, ShownPass, leave, leaves}
 use Rattle.keeper.specs.Keep.{HasFirst}
 
 -- a table that has the first arrivals after a history has them after a longer one too
@@ -23,7 +23,7 @@ FirstArrivalsStay = (db : Database) (rows : ℕ) (opening : List EventValue)
 -- table with the first arrivals up to the mark, which has reached n: then the table has first all
 -- the arrivals that the caller had seen
 abbrev pub AcknowledgedAreKept : Type 0
-AcknowledgedAreKept = (db : Database) (mark n limit : ℕ) (p q r : Shown)
+AcknowledgedAreKept = (db : Database) (mark n limit : ℕ) (p q r : ShownPass)
     → Made p q (call (command.Fresh n limit) (Paged [])) → 1 ≤ limit
     → r.opening ≡ q.opening → StartsWith r.seen q.seen
     → n ≤ mark → HasFirst db mark (leaves r)

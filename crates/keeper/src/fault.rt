@@ -84,7 +84,7 @@ impl From<TableFault> for KeepFault {
 impl From<DeskFault> for KeepFault {
     ghost from_gives = { λ _ kept. kept ≡ OutOfMemory };
 
-    /// Want of memory.
+    /// A site refuses a keeper for want of memory alone.
     fn from(_fault: DeskFault) -> KeepFault {
         KeepFault::OutOfMemory
     }

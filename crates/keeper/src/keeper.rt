@@ -10,7 +10,7 @@ ghost use Rattle.site.specs.Arrival.{AreDistinct};
 ghost use Rattle.inbox_table.specs.Calls.{IsSettled, IsTold, StandsFor};
 ghost use Rattle.inbox_table.specs.Rows.{IsInbox};
 ghost use Rattle.site_lock.specs.Pass.{leaves};
-ghost use Rattle.keeper.specs.Keep.{Asks, AsksPages, EndsRefused, HasAll, Keeps, KeepsPages, KeepsUp, MayKeepAll, max_page};
+ghost use Rattle.keeper.specs.Keep.{AsksFresh, AsksPages, EndsShort, HasAll, Keeps, KeepsPages, KeepsUp, MayKeepAll, max_page};
 ghost use Rattle.keeper.specs.declared.fault.KeepFault.TheVariants.{Foreign, OutOfMemory};
 
 use crate::fault::{KeepFault, Stop};
@@ -97,12 +97,12 @@ pub struct NotKept<S: Alter> {
 }
 
 impl<S: Alter> Model for Keeper<S> {
-    ghost use Rattle.inbox_table.specs.Calls.{Kept};
-    ghost use Rattle.inbox_table.specs.Codes.{kept_code};
+    ghost use Rattle.inbox_table.specs.Calls.{KeptTable};
+    ghost use Rattle.inbox_table.specs.Codes.{kept_table_code};
 
-    ghost Value = { Kept S };
+    ghost Value = { KeptTable S };
 
-    ghost coded = { kept_code S.code };
+    ghost coded = { kept_table_code S.code };
 
     ghost view = { λ k. k.table };
 }
@@ -187,12 +187,12 @@ impl<S: Alter + Drop> Keeper<S> {
     ) -> Result<u64, KeepFault>
         requires own { pass.old.table ≡ shared.now }
         requires first { KeepsUp (state S.Store self.old.conn) self.old.rows (leaves pass.old) }
-        ensures asked { Asks self.old.rows pass.old pass.new }
+        ensures asked { AsksFresh self.old.rows pass.old pass.new }
         ensures keeps { KeepsPages (λ conn. state S.Store conn) max_page self.old self.new
             (leaves pass.new) result }
 
         // Where the site had no memory for a page nothing was kept, and that is told.
-        ensures refused { EndsRefused pass.new
+        ensures refused { EndsShort pass.new
             → (self.new ≡ self.old) × IsErrOf result OutOfMemory }
     {
         self.steps(rt, shared, pass, 1)
@@ -219,7 +219,7 @@ impl<S: Alter + Drop> Keeper<S> {
             (leaves pass.new) result }
 
         // Where the site had no memory for a page nothing was kept, and that is told.
-        ensures refused { EndsRefused pass.new
+        ensures refused { EndsShort pass.new
             → (self.new ≡ self.old) × IsErrOf result OutOfMemory }
     {
         let mark = self.table.rows();

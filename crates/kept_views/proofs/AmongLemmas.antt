@@ -10,8 +10,8 @@ use Rattle.attributes.specs.Event.{EventValue, kind_of}
 use Rattle.inbox.specs.Sets.{set_of}
 use Rattle.inbox.specs.Shown.{is_shown}
 use Rattle.inbox.proofs.ReadLemmas.{filter_kept, filter_left_out}
-use Rattle.kept_views.specs.Tables.{EachHasRow, KindDay, Rank, RowsAreOf, StandsFor, Tables, Entity, count_of_day, count_of_kind, is_day, is_on, is_slot, place_at, slot_of}
-use Rattle.kept_views.specs.steps.Among.{AreOf, shown_before}
+use Rattle.kept_views.specs.Tables.{EachHasRow, KindDay, Rank, RowsAreOf, AreTablesOfShown, Tables, Entity, count_of_day, count_of_kind, is_kind_day, is_on, is_slot, row_place_at, slot_of}
+use Rattle.kept_views.specs.steps.Among.{AreTablesOf, shown_before}
 use Rattle.kept_views.specs.steps.Moves.{ComesIn, count_in, day_count_in}
 use Rattle.kept_views.proofs.MemberLemmas.{at_head, head_or_behind, length_filtered}
 use Rattle.kept_views.proofs.StandsLemmas.{from_counted, raised, slot_exact, slot_itself}
@@ -25,7 +25,7 @@ count_pushed p xs x =
     omega (arith, both, one, none)
 
 -- ---- one more event
-module _ (A L : List EventValue) (e : EventValue) (place : ℕ) (at : slice_get A place ≡ Some e) (old new : Tables) (was : AreOf A L old) (comes : ComesIn e place old new) where
+module _ (A L : List EventValue) (e : EventValue) (place : ℕ) (at : slice_get A place ≡ Some e) (old new : Tables) (was : AreTablesOf A L old) (comes : ComesIn e place old new) where
   is_there : Contains (L ++ e ∷ []) e
   is_there = Contains-append_right L (e ∷ []) e (at_head e [])
 
@@ -42,11 +42,11 @@ module _ (A L : List EventValue) (e : EventValue) (place : ℕ) (at : slice_get 
       head_alone : Contains (e ∷ []) f → e ≡ f
       head_alone d = elim (head_or_behind e f [] d) as (λ _. e ≡ f) [ inl h ↦ h | inr n ↦ absurd (omega (arith, n.1)) ]
 
-  row_came : (t : Entity) (r : Rank) → is_slot (slot_of e) t r ≡ true → place_at new.entities t r ≡ Some place
-  row_came t r h = comes.entities t r ∙ ap (λ b. if b then Some place else place_at old.entities t r) h
+  row_came : (t : Entity) (r : Rank) → is_slot (slot_of e) t r ≡ true → row_place_at new.entities t r ≡ Some place
+  row_came t r h = comes.entities t r ∙ ap (λ b. if b then Some place else row_place_at old.entities t r) h
 
-  row_kept : (t : Entity) (r : Rank) → is_slot (slot_of e) t r ≡ false → place_at new.entities t r ≡ place_at old.entities t r
-  row_kept t r h = comes.entities t r ∙ ap (λ b. if b then Some place else place_at old.entities t r) h
+  row_kept : (t : Entity) (r : Rank) → is_slot (slot_of e) t r ≡ false → row_place_at new.entities t r ≡ row_place_at old.entities t r
+  row_kept t r h = comes.entities t r ∙ ap (λ b. if b then Some place else row_place_at old.entities t r) h
 
   rows : RowsAreOf A (L ++ e ∷ []) new.entities
   rows t r p h = from (is_slot (slot_of e) t r) refl
@@ -65,17 +65,17 @@ module _ (A L : List EventValue) (e : EventValue) (place : ℕ) (at : slice_get 
   each : EachHasRow (L ++ e ∷ []) new.entities
   each f t r c h = from (is_slot (slot_of e) t r) refl
     where
-      from : (b : Bool) → is_slot (slot_of e) t r ≡ b → (p : ℕ) × (place_at new.entities t r ≡ Some p)
+      from : (b : Bool) → is_slot (slot_of e) t r ≡ b → (p : ℕ) × (row_place_at new.entities t r ≡ Some p)
       from true b = (place, row_came t r b)
-      from false b = elim (is_new f c) as (λ _. (p : ℕ) × (place_at new.entities t r ≡ Some p)) [
+      from false b = elim (is_new f c) as (λ _. (p : ℕ) × (row_place_at new.entities t r ≡ Some p)) [
         | inl d ↦ let row = was.each f t r d h in (row.0, row_kept t r b ∙ row.1)
         | inr same ↦ absurd (true≢false (sym (slot_itself (slot_of e) t r (ap slot_of same ∙ h)) ∙ b))
       ]
 
-  pub are_of_more : AreOf A (L ++ e ∷ []) new
+  pub are_of_more : AreTablesOf A (L ++ e ∷ []) new
   are_of_more = record {
     kinds = raised bytes_eq (count_of_kind L) (count_of_kind (L ++ e ∷ [])) (λ k. bytes_eq k (kind_of e)) old.kinds new.kinds was.kinds (λ k. count_pushed (λ f. bytes_eq k (kind_of f)) L e) comes.kinds;
-    days = raised is_day (count_of_day L) (count_of_day (L ++ e ∷ [])) (λ k. is_on k e) old.days new.days was.days (λ k. count_pushed (is_on k) L e) comes.days;
+    days = raised is_kind_day (count_of_day L) (count_of_day (L ++ e ∷ [])) (λ k. is_on k e) old.days new.days was.days (λ k. count_pushed (is_on k) L e) comes.days;
     rows = rows;
     each = each;
   }
@@ -83,7 +83,7 @@ module _ (A L : List EventValue) (e : EventValue) (place : ℕ) (at : slice_get 
 -- ---- in key order
 module _ (A : List EventValue) where
   -- those of no events
-  pub are_of_none : (E : List EventValue) (T : Tables) → StandsFor [] T → AreOf A (shown_before 0 E) T
+  pub are_of_none : (E : List EventValue) (T : Tables) → AreTablesOfShown [] T → AreTablesOf A (shown_before 0 E) T
   are_of_none E T s = record {
     kinds = s.kinds;
     days = s.days;
@@ -93,25 +93,25 @@ module _ (A : List EventValue) where
 
   -- an event that is shown, and one that is hidden
   pub are_of_shown : (E : List EventValue) (i place : ℕ) (e : EventValue) (old new : Tables) → slice_get E i ≡ Some e → slice_get A place ≡ Some e → is_shown E e ≡ true
-      → AreOf A (shown_before i E) old → ComesIn e place old new → AreOf A (shown_before (i + 1) E) new
+      → AreTablesOf A (shown_before i E) old → ComesIn e place old new → AreTablesOf A (shown_before (i + 1) E) new
   are_of_shown E i place e old new here came shows was comes =
-      subst (λ L. AreOf A L new) (sym (filter_kept (is_shown E) E i e here shows)) (are_of_more A (shown_before i E) e place came old new was comes)
+      subst (λ L. AreTablesOf A L new) (sym (filter_kept (is_shown E) E i e here shows)) (are_of_more A (shown_before i E) e place came old new was comes)
 
-  pub are_of_hidden : (E : List EventValue) (i : ℕ) (e : EventValue) (T : Tables) → slice_get E i ≡ Some e → is_shown E e ≡ false → AreOf A (shown_before i E) T → AreOf A (shown_before (i + 1) E) T
-  are_of_hidden E i e T here hidden was = subst (λ L. AreOf A L T) (sym (filter_left_out (is_shown E) E i e here hidden)) was
+  pub are_of_hidden : (E : List EventValue) (i : ℕ) (e : EventValue) (T : Tables) → slice_get E i ≡ Some e → is_shown E e ≡ false → AreTablesOf A (shown_before i E) T → AreTablesOf A (shown_before (i + 1) E) T
+  are_of_hidden E i e T here hidden was = subst (λ L. AreTablesOf A L T) (sym (filter_left_out (is_shown E) E i e here hidden)) was
 
   -- a count fits
   few_pass : (p : EventValue → Bool) (E : List EventValue) (n : ℕ) → count_by p (shown_before n E) ≤ n
   few_pass p E n = omega (arith, count_by-le-length p (shown_before n E), length_filtered (is_shown E) (take n E), length-take n E)
 
-  pub kind_before : (E : List EventValue) (n : ℕ) (T : Tables) (k : List ℕ) → AreOf A (shown_before n E) T → count_in T.kinds k ≤ n
+  pub kind_before : (E : List EventValue) (n : ℕ) (T : Tables) (k : List ℕ) → AreTablesOf A (shown_before n E) T → count_in T.kinds k ≤ n
   kind_before E n T k was = omega (arith, ap (λ o. unwrap_or o 0) (was.kinds k) ∙ from_counted (count_of_kind (shown_before n E) k), few_pass (λ e. bytes_eq k (kind_of e)) E n)
 
-  pub day_before : (E : List EventValue) (n : ℕ) (T : Tables) (k : KindDay) → AreOf A (shown_before n E) T → day_count_in T.days k ≤ n
+  pub day_before : (E : List EventValue) (n : ℕ) (T : Tables) (k : KindDay) → AreTablesOf A (shown_before n E) T → day_count_in T.days k ≤ n
   day_before E n T k was = omega (arith, ap (λ o. unwrap_or o 0) (was.days k) ∙ from_counted (count_of_day (shown_before n E) k), few_pass (is_on k) E n)
 
   -- all of them
-  pub are_of_all : (n : ℕ) (T : Tables) → length (set_of A) ≤ n → AreOf A (shown_before n (set_of A)) T → StandsFor A T
+  pub are_of_all : (n : ℕ) (T : Tables) → length (set_of A) ≤ n → AreTablesOf A (shown_before n (set_of A)) T → AreTablesOfShown A T
   are_of_all n T all was =
-      let s = subst (λ L. AreOf A (filter (is_shown (set_of A)) L) T) (take_all n (set_of A) all) was in
+      let s = subst (λ L. AreTablesOf A (filter (is_shown (set_of A)) L) T) (take_all n (set_of A) all) was in
       record { kinds = s.kinds; days = s.days; rows = s.rows; each = s.each }

@@ -23,7 +23,7 @@ use Rattle.inbox.specs.Ordered.{add_all, has, in_order}
 use Rattle.inbox.proofs.SetLemmas.{sets_are_members, sorted-insert_key}
 use Rattle.views.specs.Tally.{tally}
 use Rattle.views.proofs.TableLemmas.{insert_value, with_values}
-use Rattle.kept_views.specs.Tables.{CountsKinds, count_of_kind, counted}
+use Rattle.kept_views.specs.Tables.{CountsKinds, count_of_kind, count_in_table}
 use Rattle.kept_views.specs.steps.Rows.{put_all}
 use Rattle.kept_views.specs.steps.Seen.{kinds_in}
 use Rattle.kept_views.proofs.ListLemmas.{each_at}
@@ -72,7 +72,7 @@ distinct_seen {K} {P} {X} {Y} f same h (x ∷ xs) d = (apart xs d.0, distinct_se
     apart (y ∷ ys) a = (a.0, apart ys a.1)
 
 -- ---- types
-pub positive : (n : ℕ) → 0 < n → is_some (counted n) ≡ true
+pub positive : (n : ℕ) → 0 < n → is_some (count_in_table n) ≡ true
 positive zero h = absurd (omega arith)
 positive (suc n) h = refl
 
@@ -86,15 +86,15 @@ times_is (e ∷ S) k =
     ∙ ap₂ (λ (b : Bool) (n : ℕ). cond b 1 0 + n) (is_eq-slice_cmp k (kind_of e)) (times_is S k)
     ∙ sym (sum_by-cons (λ e. cond (bytes_eq k (kind_of e)) 1 0) e S)
 
-has_kind : (S : List EventValue) (k : List ℕ) → has byte_cmp (map kind_of S) k ≡ is_some (counted (count_of_kind S k))
+has_kind : (S : List EventValue) (k : List ℕ) → has byte_cmp (map kind_of S) k ≡ is_some (count_in_table (count_of_kind S k))
 has_kind [] k = refl
 has_kind (e ∷ S) k =
     ap (λ b. b || has byte_cmp (map kind_of S) k) (is_eq-slice_cmp k (kind_of e))
-    ∙ elim (bytes_eq k (kind_of e)) as (λ b. (b || has byte_cmp (map kind_of S) k) ≡ is_some (counted (cond b 1 0 + count_of_kind S k))) [
+    ∙ elim (bytes_eq k (kind_of e)) as (λ b. (b || has byte_cmp (map kind_of S) k) ≡ is_some (count_in_table (cond b 1 0 + count_of_kind S k))) [
       | true ↦ sym (positive (1 + count_of_kind S k) (omega arith))
-      | false ↦ has_kind S k ∙ ap (λ n. is_some (counted n)) (omega arith)
+      | false ↦ has_kind S k ∙ ap (λ n. is_some (count_in_table n)) (omega arith)
     ]
-    ∙ ap (λ n. is_some (counted n)) (sym (sum_by-cons (λ e. cond (bytes_eq k (kind_of e)) 1 0) e S))
+    ∙ ap (λ n. is_some (count_in_table n)) (sym (sum_by-cons (λ e. cond (bytes_eq k (kind_of e)) 1 0) e S))
 
 has_row : (rows : List (List ℕ × ℕ)) (k : List ℕ) → has byte_cmp (map (λ row. row.0) rows) k ≡ is_some (lookup (bytes_eq k) rows)
 has_row [] k = refl
@@ -105,7 +105,7 @@ has_row (row ∷ rows) k =
       | false ↦ has_row rows k
     ]
 
-pub count_from : (n m : ℕ) → counted n ≡ Some m → m ≡ n
+pub count_from : (n m : ℕ) → count_in_table n ≡ Some m → m ≡ n
 count_from zero m h = absurd (cc)
 count_from (suc n) m h = cc
 

@@ -24,7 +24,7 @@ use Rattle.views.specs.Law.{LatestAreGreatest, NoneTie, EntitiesHaveLatest}
 use Rattle.views.specs.Number.{number_or_0}
 use Rattle.views.proofs.GreatestLemmas.{greatest_bound, greatest_one, each_there}
 use Rattle.views.proofs.TableLemmas.{with_values}
-use Rattle.kept_views.specs.Tables.{EachHasRow, Rank, Rows, RowsAreOf, Entity, is_rank, is_entity, place_at, rank_cmp, rows_of, slot_of}
+use Rattle.kept_views.specs.Tables.{EachHasRow, Rank, Rows, RowsAreOf, Entity, is_rank, is_entity, row_place_at, rank_cmp, rows_of, slot_of}
 use Rattle.kept_views.specs.steps.Latest.{latest_row, entity_row, top_event, top_rank}
 use Rattle.kept_views.specs.steps.Rows.{put_all}
 use Rattle.kept_views.specs.steps.Seen.{rank_in}
@@ -283,7 +283,7 @@ module _ (A : List EventValue) (entities : List (Entity × Rows)) (rows : RowsAr
           let place = each e t (number_or_0 e, id_of e) m.1 slot in
           with_rows e place.0 place.1 (lookup (is_entity t) entities) refl
         where
-          with_rows : (e : EventValue) (p : ℕ) → place_at entities t (number_or_0 e, id_of e) ≡ Some p → (o : Option Rows) → lookup (is_entity t) entities ≡ o → Contains keys t
+          with_rows : (e : EventValue) (p : ℕ) → row_place_at entities t (number_or_0 e, id_of e) ≡ Some p → (o : Option Rows) → lookup (is_entity t) entities ≡ o → Contains keys t
           with_rows e p h None is = let none : None ≡ Some p = sym (ap (λ o. lookup (is_rank (number_or_0 e, id_of e)) (option_map_or (λ (rows : Rows). rows) o [])) is) ∙ h in absurd (cc)
           with_rows e p h (Some rs) is =
               let rank : Rank = (number_or_0 e, id_of e) in

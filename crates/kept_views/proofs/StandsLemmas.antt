@@ -20,18 +20,18 @@ use Rattle.inbox.specs.Shown.{IsShownOf, NoneHas, is_shown, shown}
 use Rattle.inbox.proofs.OrderLemmas.{key_cmp_total, tied_events}
 use Rattle.inbox.proofs.SetLemmas.{all-in_order, has-in_order, in_order-push, sorted-in_order}
 use Rattle.views.specs.Number.{number_or_0}
-use Rattle.kept_views.specs.Tables.{CountsDays, CountsKinds, EachHasRow, KindDay, Rank, RowsAreOf, StandsFor, Tables, Entity, count_of_day, count_of_kind, counted, is_day, is_on, is_rank, is_slot, is_entity, place_at, slot_of}
+use Rattle.kept_views.specs.Tables.{CountsDays, CountsKinds, EachHasRow, KindDay, Rank, RowsAreOf, AreTablesOfShown, Tables, Entity, count_of_day, count_of_kind, count_in_table, is_kind_day, is_on, is_rank, is_slot, is_entity, row_place_at, slot_of}
 use Rattle.kept_views.specs.steps.Moves.{ComesIn, CountsChange, GoesOut, are_together, count_in, day_count_in, one_less, one_more, slot_apart}
 use Rattle.kept_views.proofs.MemberLemmas.{all_in, at_place, from_filter, from_inserted, is_inserted, is_last, length_filtered, length_in_order, place_in, to_filter, to_inserted, was_there}
 use Rattle.kept_views.proofs.ShownLemmas.{first_counts, first_shows, hidden_counts, hides, hides_it, hides_none, hides_one, key_back, one_key, one_text, replaced_counts, replaces_shows, shown_of_new, stays_hidden, apart, tie_of}
 use Rattle.kept_views.proofs.TableLemmas.{rank_exact, rank_itself, entity_exact, entity_itself}
 
 -- ---- what comes again, and what is new
-pub known : (A : List EventValue) (e : EventValue) (T : Tables) → has key_cmp A e ≡ true → StandsFor A T → StandsFor (append_new key_cmp A (e ∷ [])) T
-known A e T h s = subst (λ B. StandsFor B T) (sym (ap (λ b. if b then A else A ++ e ∷ []) h)) s
+pub known : (A : List EventValue) (e : EventValue) (T : Tables) → has key_cmp A e ≡ true → AreTablesOfShown A T → AreTablesOfShown (append_new key_cmp A (e ∷ [])) T
+known A e T h s = subst (λ B. AreTablesOfShown B T) (sym (ap (λ b. if b then A else A ++ e ∷ []) h)) s
 
-pub comes_new : (A : List EventValue) (e : EventValue) (T : Tables) → has key_cmp A e ≡ false → StandsFor (A ++ e ∷ []) T → StandsFor (append_new key_cmp A (e ∷ [])) T
-comes_new A e T h s = subst (λ B. StandsFor B T) (sym (ap (λ b. if b then A else A ++ e ∷ []) h)) s
+pub comes_new : (A : List EventValue) (e : EventValue) (T : Tables) → has key_cmp A e ≡ false → AreTablesOfShown (A ++ e ∷ []) T → AreTablesOfShown (append_new key_cmp A (e ∷ [])) T
+comes_new A e T h s = subst (λ B. AreTablesOfShown B T) (sym (ap (λ b. if b then A else A ++ e ∷ []) h)) s
 
 -- a source and an id that are the event's
 pub none_at : (E : List EventValue) (e : EventValue) (source id : List ℕ) → source ≡ source_of e → id ≡ id_of e → NoneHas E source id → NoneHas E (source_of e) (id_of e)
@@ -41,44 +41,44 @@ pub shown_at : (E : List EventValue) (e o : EventValue) (source id : List ℕ) �
 shown_at E e o source id h k shows = subst (λ x. IsShownOf E x (id_of e) o) h (subst (λ x. IsShownOf E source x o) k shows)
 
 -- ---- counts
-pub from_counted : (n : ℕ) → unwrap_or (counted n) 0 ≡ n
+pub from_counted : (n : ℕ) → unwrap_or (count_in_table n) 0 ≡ n
 from_counted zero = refl
 from_counted (suc n) = refl
 
-counted_more : (n : ℕ) → Some (n + 1) ≡ counted (1 + n)
-counted_more n = ap Some (omega arith) ∙ (λ i. counted (more i))
+counted_more : (n : ℕ) → Some (n + 1) ≡ count_in_table (1 + n)
+counted_more n = ap Some (omega arith) ∙ (λ i. count_in_table (more i))
   where
     more : suc n ≡ 1 + n
     more = omega arith
 
 -- a table that has the counts n, of which those that pass a test change by one, has the counts m
-module _ {K : Type 0} (same : K → K → Bool) (n m : K → ℕ) (test : K → Bool) (ks ms : List (K × ℕ)) (was : (k : K) → lookup (same k) ks ≡ counted (n k)) where
-  pub raised : ((k : K) → m k ≡ cond (test k) 1 0 + n k) → CountsChange same test one_more ks ms → (k : K) → lookup (same k) ms ≡ counted (m k)
+module _ {K : Type 0} (same : K → K → Bool) (n m : K → ℕ) (test : K → Bool) (ks ms : List (K × ℕ)) (was : (k : K) → lookup (same k) ks ≡ count_in_table (n k)) where
+  pub raised : ((k : K) → m k ≡ cond (test k) 1 0 + n k) → CountsChange same test one_more ks ms → (k : K) → lookup (same k) ms ≡ count_in_table (m k)
   raised counts change k =
       change k
-      ∙ elim (test k) as (λ b. (if b then Some (unwrap_or (lookup (same k) ks) 0 + 1) else lookup (same k) ks) ≡ counted (cond b 1 0 + n k)) [
+      ∙ elim (test k) as (λ b. (if b then Some (unwrap_or (lookup (same k) ks) 0 + 1) else lookup (same k) ks) ≡ count_in_table (cond b 1 0 + n k)) [
         | true ↦ ap (λ o. Some (unwrap_or o 0 + 1)) (was k) ∙ ap (λ c. Some (c + 1)) (from_counted (n k)) ∙ counted_more (n k)
-        | false ↦ was k ∙ ap counted (omega arith)
+        | false ↦ was k ∙ ap count_in_table (omega arith)
       ]
-      ∙ ap counted (sym (counts k))
+      ∙ ap count_in_table (sym (counts k))
 
-  pub lowered : ((k : K) → m k + cond (test k) 1 0 ≡ n k) → CountsChange same test one_less ks ms → (k : K) → lookup (same k) ms ≡ counted (m k)
+  pub lowered : ((k : K) → m k + cond (test k) 1 0 ≡ n k) → CountsChange same test one_less ks ms → (k : K) → lookup (same k) ms ≡ count_in_table (m k)
   lowered counts change k =
       change k
-      ∙ elim (test k) as (λ b. m k + cond b 1 0 ≡ n k → (if b then counted (unwrap_or (lookup (same k) ks) 0 - 1) else lookup (same k) ks) ≡ counted (m k)) [
-        | true ↦ λ h. ap (λ o. counted (unwrap_or o 0 - 1)) (was k) ∙ ap (λ c. counted (c - 1)) (from_counted (n k)) ∙ ap counted (omega (arith, h))
-        | false ↦ λ h. was k ∙ ap counted (omega (arith, h))
+      ∙ elim (test k) as (λ b. m k + cond b 1 0 ≡ n k → (if b then count_in_table (unwrap_or (lookup (same k) ks) 0 - 1) else lookup (same k) ks) ≡ count_in_table (m k)) [
+        | true ↦ λ h. ap (λ o. count_in_table (unwrap_or o 0 - 1)) (was k) ∙ ap (λ c. count_in_table (c - 1)) (from_counted (n k)) ∙ ap count_in_table (omega (arith, h))
+        | false ↦ λ h. was k ∙ ap count_in_table (omega (arith, h))
       ] (counts k)
 
 -- a count is that of what the table stands for, and fits
-pub count_is : (A : List EventValue) (T : Tables) (k : List ℕ) → StandsFor A T → count_in T.kinds k ≡ count_of_kind (shown (set_of A)) k
+pub count_is : (A : List EventValue) (T : Tables) (k : List ℕ) → AreTablesOfShown A T → count_in T.kinds k ≡ count_of_kind (shown (set_of A)) k
 count_is A T k s = ap (λ o. unwrap_or o 0) (s.kinds k) ∙ from_counted (count_of_kind (shown (set_of A)) k)
 
-pub count_fits : (A : List EventValue) (T : Tables) (k : List ℕ) → StandsFor A T → count_in T.kinds k ≤ length A
+pub count_fits : (A : List EventValue) (T : Tables) (k : List ℕ) → AreTablesOfShown A T → count_in T.kinds k ≤ length A
 count_fits A T k s =
     omega (arith, count_is A T k s, count_by-le-length (λ e. bytes_eq k (kind_of e)) (shown (set_of A)), length_filtered (is_shown (set_of A)) (set_of A), length_in_order key_cmp A)
 
-pub day_fits : (A : List EventValue) (T : Tables) (k : KindDay) → StandsFor A T → day_count_in T.days k ≤ length A
+pub day_fits : (A : List EventValue) (T : Tables) (k : KindDay) → AreTablesOfShown A T → day_count_in T.days k ≤ length A
 day_fits A T k s =
     omega (
       arith,
@@ -177,7 +177,7 @@ module _ (A : List EventValue) (e : EventValue) (fresh : has key_cmp A e ≡ fal
   grown = in_order-push key_cmp_total A e
 
   -- it is enough that they are those of the set with the event
-  stands : (T : Tables) → CountsKinds (shown E') T.kinds → CountsDays (shown E') T.days → RowsAreOf (A ++ e ∷ []) (shown E') T.entities → EachHasRow (shown E') T.entities → StandsFor (A ++ e ∷ []) T
+  stands : (T : Tables) → CountsKinds (shown E') T.kinds → CountsDays (shown E') T.days → RowsAreOf (A ++ e ∷ []) (shown E') T.entities → EachHasRow (shown E') T.entities → AreTablesOfShown (A ++ e ∷ []) T
   stands T kinds days rows each = record {
     kinds = subst (λ X. CountsKinds (shown X) T.kinds) (sym grown) kinds;
     days = subst (λ X. CountsDays (shown X) T.days) (sym grown) days;
@@ -215,41 +215,41 @@ module _ (A : List EventValue) (e : EventValue) (fresh : has key_cmp A e ≡ fal
   pub replaced_is_shown : (o : EventValue) → IsShownOf E (source_of e) (id_of e) o → is_lt (text_cmp e o) ≡ true → is_shown (set_of (A ++ e ∷ [])) e ≡ true
   replaced_is_shown o there less = ap (λ X. is_shown X e) grown ∙ replaces_shows E e fresh_in o there less
 
-  module _ (old : Tables) (s : StandsFor A old) where
+  module _ (old : Tables) (s : AreTablesOfShown A old) where
     -- ---- it is hidden
-    pub stands_hidden : (o : EventValue) (there : IsShownOf E (source_of e) (id_of e) o) → is_lt (text_cmp e o) ≡ false → StandsFor (A ++ e ∷ []) old
+    pub stands_hidden : (o : EventValue) (there : IsShownOf E (source_of e) (id_of e) o) → is_lt (text_cmp e o) ≡ false → AreTablesOfShown (A ++ e ∷ []) old
     stands_hidden o there greater =
         stands old
-        (λ k. s.kinds k ∙ ap counted (sym (hidden_counts E e fresh_in o there greater (λ f. bytes_eq k (kind_of f)))))
-        (λ k. s.days k ∙ ap counted (sym (hidden_counts E e fresh_in o there greater (is_on k))))
+        (λ k. s.kinds k ∙ ap count_in_table (sym (hidden_counts E e fresh_in o there greater (λ f. bytes_eq k (kind_of f)))))
+        (λ k. s.days k ∙ ap count_in_table (sym (hidden_counts E e fresh_in o there greater (is_on k))))
         (λ t r p h.
         let row = s.rows t r p h in
         let f = row.0 in
         let c = from_filter (is_shown E) E f row.2 in
         let at = place_in E f c.0 in
         (f, was_there A e f p row.1, stays f row.2 (hides_none E e fresh_in o there greater at.0 f at.1 c.1), row.3))
-        (λ f t r c h. elim (was f c) as (λ _. (p : ℕ) × (place_at old.entities t r ≡ Some p)) [
+        (λ f t r c h. elim (was f c) as (λ _. (p : ℕ) × (row_place_at old.entities t r ≡ Some p)) [
           | inl same ↦ absurd (true≢false (sym (ap (is_shown E') (sym same) ∙ (from_filter (is_shown E') E' f c).1) ∙ stays_hidden E e fresh_in o there greater))
           | inr d ↦ s.each f t r d.0 h
         ])
 
     -- ---- the rows once it has come, and none has gone
     module _ (mid : Tables) (comes : ComesIn e (length A) old mid) where
-      row_came : (t : Entity) (r : Rank) → is_slot (slot_of e) t r ≡ true → place_at mid.entities t r ≡ Some (length A)
-      row_came t r h = comes.entities t r ∙ ap (λ b. if b then Some (length A) else place_at old.entities t r) h
+      row_came : (t : Entity) (r : Rank) → is_slot (slot_of e) t r ≡ true → row_place_at mid.entities t r ≡ Some (length A)
+      row_came t r h = comes.entities t r ∙ ap (λ b. if b then Some (length A) else row_place_at old.entities t r) h
 
-      row_kept : (t : Entity) (r : Rank) → is_slot (slot_of e) t r ≡ false → place_at mid.entities t r ≡ place_at old.entities t r
-      row_kept t r h = comes.entities t r ∙ ap (λ b. if b then Some (length A) else place_at old.entities t r) h
+      row_kept : (t : Entity) (r : Rank) → is_slot (slot_of e) t r ≡ false → row_place_at mid.entities t r ≡ row_place_at old.entities t r
+      row_kept t r h = comes.entities t r ∙ ap (λ b. if b then Some (length A) else row_place_at old.entities t r) h
 
-      some_row : (t : Entity) (r : Rank) → (p : ℕ) × (place_at old.entities t r ≡ Some p) → (p : ℕ) × (place_at mid.entities t r ≡ Some p)
+      some_row : (t : Entity) (r : Rank) → (p : ℕ) × (row_place_at old.entities t r ≡ Some p) → (p : ℕ) × (row_place_at mid.entities t r ≡ Some p)
       some_row t r p = from (is_slot (slot_of e) t r) refl
         where
-          from : (b : Bool) → is_slot (slot_of e) t r ≡ b → (p : ℕ) × (place_at mid.entities t r ≡ Some p)
+          from : (b : Bool) → is_slot (slot_of e) t r ≡ b → (p : ℕ) × (row_place_at mid.entities t r ≡ Some p)
           from true h = (length A, row_came t r h)
           from false h = (p.0, row_kept t r h ∙ p.1)
 
       -- the row of the event itself
-      own_row : is_shown E' e ≡ true → (t : Entity) (r : Rank) (p : ℕ) → is_slot (slot_of e) t r ≡ true → place_at mid.entities t r ≡ Some p
+      own_row : is_shown E' e ≡ true → (t : Entity) (r : Rank) (p : ℕ) → is_slot (slot_of e) t r ≡ true → row_place_at mid.entities t r ≡ Some p
           → (f : EventValue) × (slice_get (A ++ e ∷ []) p ≡ Some f) × Contains (shown E') f × (slot_of f ≡ Some (t, r))
       own_row shows t r p slot h =
           let place : length A ≡ p = some_same (sym (row_came t r slot) ∙ h) in
@@ -259,13 +259,13 @@ module _ (A : List EventValue) (e : EventValue) (fresh : has key_cmp A e ≡ fal
           some_same h = cc
 
       -- ---- its key is new
-      pub stands_first : NoneHas E (source_of e) (id_of e) → StandsFor (A ++ e ∷ []) mid
+      pub stands_first : NoneHas E (source_of e) (id_of e) → AreTablesOfShown (A ++ e ∷ []) mid
       stands_first none =
           stands mid
           (raised bytes_eq (count_of_kind (shown E)) (count_of_kind (shown E')) (λ k. bytes_eq k (kind_of e)) old.kinds mid.kinds s.kinds (λ k. first_counts E e fresh_in none (λ f. bytes_eq k (kind_of f))) comes.kinds)
-          (raised is_day (count_of_day (shown E)) (count_of_day (shown E')) (λ k. is_on k e) old.days mid.days s.days (λ k. first_counts E e fresh_in none (is_on k)) comes.days)
+          (raised is_kind_day (count_of_day (shown E)) (count_of_day (shown E')) (λ k. is_on k e) old.days mid.days s.days (λ k. first_counts E e fresh_in none (is_on k)) comes.days)
           rows
-          (λ f t r c h. elim (was f c) as (λ _. (p : ℕ) × (place_at mid.entities t r ≡ Some p)) [
+          (λ f t r c h. elim (was f c) as (λ _. (p : ℕ) × (row_place_at mid.entities t r ≡ Some p)) [
             | inl same ↦ (length A, row_came t r (slot_itself (slot_of e) t r (ap slot_of (sym same) ∙ h)))
             | inr d ↦ some_row t r (s.each f t r d.0 h)
           ])
@@ -289,19 +289,19 @@ module _ (A : List EventValue) (e : EventValue) (fresh : has key_cmp A e ≡ fal
         abbrev mid_count : List ℕ → ℕ
         mid_count k = cond (bytes_eq k (kind_of e)) 1 0 + count_of_kind (shown E) k
 
-        mid_counts : (k : List ℕ) → lookup (bytes_eq k) mid.kinds ≡ counted (mid_count k)
+        mid_counts : (k : List ℕ) → lookup (bytes_eq k) mid.kinds ≡ count_in_table (mid_count k)
         mid_counts = raised bytes_eq (count_of_kind (shown E)) mid_count (λ k. bytes_eq k (kind_of e)) old.kinds mid.kinds s.kinds (λ k. refl) comes.kinds
 
         abbrev mid_days : KindDay → ℕ
         mid_days k = cond (is_on k e) 1 0 + count_of_day (shown E) k
 
-        mid_days_count : (k : KindDay) → lookup (is_day k) mid.days ≡ counted (mid_days k)
-        mid_days_count = raised is_day (count_of_day (shown E)) mid_days (λ k. is_on k e) old.days mid.days s.days (λ k. refl) comes.days
+        mid_days_count : (k : KindDay) → lookup (is_kind_day k) mid.days ≡ count_in_table (mid_days k)
+        mid_days_count = raised is_kind_day (count_of_day (shown E)) mid_days (λ k. is_on k e) old.days mid.days s.days (λ k. refl) comes.days
 
         goes_count : (k : List ℕ) → count_of_kind (shown E') k + cond (bytes_eq k (kind_of o)) 1 0 ≡ mid_count k
         goes_count k = replaced_counts E e fresh_in o there less (sorted-in_order key_cmp_total A) (λ f. bytes_eq k (kind_of f))
 
-        -- it was counted
+        -- it was count_in_table
         pub was_counted : 0 < count_in mid.kinds (kind_of o)
         was_counted =
             let own : ◌≡◌ {A = ℕ} (cond (bytes_eq (kind_of o) (kind_of o)) 1 0) 1 = ap (λ b. cond b 1 0) ((bytes_eq-Decides (kind_of o) (kind_of o)).1 refl) in
@@ -319,11 +319,11 @@ module _ (A : List EventValue) (e : EventValue) (fresh : has key_cmp A e ≡ fal
               let all : AllByRecursion IsEvent E = all-in_order key_cmp_total IsEvent A events in
               tied_events tells f o (all_in IsEvent E f all c) (all_in IsEvent E o all (at_place E o there.place there.is_there)) h
 
-          row_gone : (t : Entity) (r : Rank) → is_slot (slot_apart o e) t r ≡ true → place_at new.entities t r ≡ None
-          row_gone t r h = goes.entities t r ∙ ap (λ b. if b then None else place_at mid.entities t r) h
+          row_gone : (t : Entity) (r : Rank) → is_slot (slot_apart o e) t r ≡ true → row_place_at new.entities t r ≡ None
+          row_gone t r h = goes.entities t r ∙ ap (λ b. if b then None else row_place_at mid.entities t r) h
 
-          row_stays : (t : Entity) (r : Rank) → is_slot (slot_apart o e) t r ≡ false → place_at new.entities t r ≡ place_at mid.entities t r
-          row_stays t r h = goes.entities t r ∙ ap (λ b. if b then None else place_at mid.entities t r) h
+          row_stays : (t : Entity) (r : Rank) → is_slot (slot_apart o e) t r ≡ false → row_place_at new.entities t r ≡ row_place_at mid.entities t r
+          row_stays t r h = goes.entities t r ∙ ap (λ b. if b then None else row_place_at mid.entities t r) h
 
           -- what stood in the slot of the other is the other's, or the event's own
           hidden_if_other : (f : EventValue) (t : Entity) (r : Rank) → Contains (shown E) f → slot_of f ≡ Some (t, r) → is_slot (slot_of e) t r ≡ false → is_slot (slot_apart o e) t r ≡ false → hides e f ≡ false
@@ -376,15 +376,15 @@ module _ (A : List EventValue) (e : EventValue) (fresh : has key_cmp A e ≡ fal
               from true g = let p = apart_is g in absurd (by_was (was f c) p.0 p.1)
               from false g = refl
 
-          pub stands_replaced : StandsFor (A ++ e ∷ []) new
+          pub stands_replaced : AreTablesOfShown (A ++ e ∷ []) new
           stands_replaced =
               stands new
               (lowered bytes_eq mid_count (count_of_kind (shown E')) (λ k. bytes_eq k (kind_of o)) mid.kinds new.kinds mid_counts goes_count goes.kinds)
-              (lowered is_day mid_days (count_of_day (shown E')) (λ k. is_on k o) mid.days new.days mid_days_count (λ k. replaced_counts E e fresh_in o there less (sorted-in_order key_cmp_total A) (is_on k)) goes.days)
+              (lowered is_kind_day mid_days (count_of_day (shown E')) (λ k. is_on k o) mid.days new.days mid_days_count (λ k. replaced_counts E e fresh_in o there less (sorted-in_order key_cmp_total A) (is_on k)) goes.days)
               rows_after
               (λ f t r c h.
-              let kept : place_at new.entities t r ≡ place_at mid.entities t r = row_stays t r (not_gone f t r c h) in
-              elim (was f c) as (λ _. (p : ℕ) × (place_at new.entities t r ≡ Some p)) [
+              let kept : row_place_at new.entities t r ≡ row_place_at mid.entities t r = row_stays t r (not_gone f t r c h) in
+              elim (was f c) as (λ _. (p : ℕ) × (row_place_at new.entities t r ≡ Some p)) [
                 | inl same ↦ (length A, kept ∙ row_came t r (slot_itself (slot_of e) t r (ap slot_of (sym same) ∙ h)))
                 | inr d ↦ let q = some_row t r (s.each f t r d.0 h) in (q.0, kept ∙ q.1)
               ])

@@ -11,8 +11,8 @@ use Rattle.std.proofs.lemmas.Cmp.{nat_cmp_total, nat_list_cmp_total, on_total, t
 use Rattle.std.proofs.lemmas.Map.Lookups.{exact_bytes, exact_pairs, exact_unsigned}
 use Rattle.std.proofs.lemmas.Slice.Eq.{bytes_eq-Decides}
 use mathlib.Core.Bool.{true≢false}
-use Rattle.kept_views.specs.Tables.{Rank, Rows, Entity, is_rank, is_entity, place_at, rank_cmp}
-use Rattle.kept_views.specs.steps.Moves.{PutsAt}
+use Rattle.kept_views.specs.Tables.{Rank, Rows, Entity, is_rank, is_entity, row_place_at, rank_cmp}
+use Rattle.kept_views.specs.steps.Moves.{SetsSlot}
 use Rattle.kept_views.specs.steps.Seen.{rank_in, rows_in, entity_in, entities_in}
 
 pub option_same : {X : Type 0} (o : Option X) → option_map (λ x. x) o ≡ o
@@ -93,27 +93,27 @@ module _ {Y : Type 0} where
   pub row_seen : (rows : Held Y) (r : Rank) → lookup (is_rank r) (rows_in rows) ≡ lookup (at_rank r) rows.entries
   row_seen rows r = seen rank_in is_rank (λ (n : ℕ). n) r rows.entries ∙ option_same (lookup (at_rank r) rows.entries)
 
-  place_seen : (es : List ((String Y × String Y) × Held Y)) (t : Entity) (r : Rank) → place_at (entities_in es) t r ≡ lookup (is_rank r) (option_map_or (λ (rows : Rows). rows) (option_map rows_in (lookup (at_entity t) es)) [])
+  place_seen : (es : List ((String Y × String Y) × Held Y)) (t : Entity) (r : Rank) → row_place_at (entities_in es) t r ≡ lookup (is_rank r) (option_map_or (λ (rows : Rows). rows) (option_map rows_in (lookup (at_entity t) es)) [])
   place_seen es t r = ap (λ o. lookup (is_rank r) (option_map_or (λ (rows : Rows). rows) o [])) (seen entity_in is_entity rows_in t es)
 
   -- an entity has other rows than before, which differ at one rank
   pub puts_at : (t : Entity) (r : Rank) (place : Option ℕ) (es fs : List ((String Y × String Y) × Held Y)) (w : Option (Held Y))
       → KeepsOthers (λ x y. is_entity (entity_in x) (entity_in y)) (at_entity t) es fs → lookup (at_entity t) fs ≡ w
-      → ((s : Rank) → lookup (is_rank s) (option_map_or (λ (rows : Rows). rows) (option_map rows_in w) []) ≡ (if is_rank r s then place else place_at (entities_in es) t s))
-      → PutsAt (Some (t, r)) place (entities_in es) (entities_in fs)
+      → ((s : Rank) → lookup (is_rank s) (option_map_or (λ (rows : Rows). rows) (option_map rows_in w) []) ≡ (if is_rank r s then place else row_place_at (entities_in es) t s))
+      → SetsSlot (Some (t, r)) place (entities_in es) (entities_in fs)
   puts_at t r place es fs w keeps there inner = λ u s.
       place_seen fs u s
       ∙ ap (λ o. lookup (is_rank s) (option_map_or (λ (rows : Rows). rows) (option_map rows_in o) [])) (read_after entity_in is_entity entity_exact entity_itself t es fs w keeps there u)
       ∙ elim (is_entity t u) as (λ b. is_entity t u ≡ b → lookup (is_rank s) (option_map_or (λ (rows : Rows). rows) (option_map rows_in (if b then w else lookup (at_entity u) es)) [])
-      ≡ (if b && is_rank r s then place else place_at (entities_in es) u s)) [
-        | true ↦ λ e. inner s ∙ ap (λ x. if is_rank r s then place else place_at (entities_in es) x s) (entity_exact t u e)
+      ≡ (if b && is_rank r s then place else row_place_at (entities_in es) u s)) [
+        | true ↦ λ e. inner s ∙ ap (λ x. if is_rank r s then place else row_place_at (entities_in es) x s) (entity_exact t u e)
         | false ↦ λ e. sym (place_seen es u s)
       ] refl
 
   -- the rows of an entity that was there change at a rank
   pub rows_change : (t : Entity) (r : Rank) (place : Option ℕ) (es : List ((String Y × String Y) × Held Y)) (m n : Held Y) → lookup (at_entity t) es ≡ Some m
       → KeepsOthers (λ x y. is_rank (rank_in x) (rank_in y)) (at_rank r) m.entries n.entries → lookup (at_rank r) n.entries ≡ place
-      → (s : Rank) → lookup (is_rank s) (rows_in n) ≡ (if is_rank r s then place else place_at (entities_in es) t s)
+      → (s : Rank) → lookup (is_rank s) (rows_in n) ≡ (if is_rank r s then place else row_place_at (entities_in es) t s)
   rows_change t r place es m n there keeps got s =
       row_seen n s ∙ read_after rank_in is_rank rank_exact rank_itself r m.entries n.entries place keeps got s
       ∙ ap (λ o. if is_rank r s then place else o) (sym (row_seen m s) ∙ sym (place_seen es t s ∙ ap (λ o. lookup (is_rank s) (option_map_or (λ (rows : Rows). rows) (option_map rows_in o) [])) there))
@@ -121,18 +121,18 @@ module _ {Y : Type 0} where
   -- an entity that was not there has one row
   pub rows_begin : (t : Entity) (r : Rank) (place : Option ℕ) (es : List ((String Y × String Y) × Held Y)) (m n : Held Y) → lookup (at_entity t) es ≡ None → m.entries ≡ []
       → KeepsOthers (λ x y. is_rank (rank_in x) (rank_in y)) (at_rank r) m.entries n.entries → lookup (at_rank r) n.entries ≡ place
-      → (s : Rank) → lookup (is_rank s) (rows_in n) ≡ (if is_rank r s then place else place_at (entities_in es) t s)
+      → (s : Rank) → lookup (is_rank s) (rows_in n) ≡ (if is_rank r s then place else row_place_at (entities_in es) t s)
   rows_begin t r place es m n there empty keeps got s =
       row_seen n s ∙ read_after rank_in is_rank rank_exact rank_itself r m.entries n.entries place keeps got s
       ∙ ap (λ o. if is_rank r s then place else o) (ap (lookup (at_rank s)) empty ∙ sym (place_seen es t s ∙ ap (λ o. lookup (is_rank s) (option_map_or (λ (rows : Rows). rows) (option_map rows_in o) [])) there))
 
   -- an entity that isn't there has no row to take out
-  pub nothing_there : (t : Entity) (r : Rank) (es : List ((String Y × String Y) × Held Y)) → lookup (at_entity t) es ≡ None → PutsAt (Some (t, r)) None (entities_in es) (entities_in es)
+  pub nothing_there : (t : Entity) (r : Rank) (es : List ((String Y × String Y) × Held Y)) → lookup (at_entity t) es ≡ None → SetsSlot (Some (t, r)) None (entities_in es) (entities_in es)
   nothing_there t r es there = λ u s.
-      elim (is_entity t u) as (λ b. is_entity t u ≡ b → place_at (entities_in es) u s ≡ (if b && is_rank r s then None else place_at (entities_in es) u s)) [
+      elim (is_entity t u) as (λ b. is_entity t u ≡ b → row_place_at (entities_in es) u s ≡ (if b && is_rank r s then None else row_place_at (entities_in es) u s)) [
         | true ↦ λ e.
-            let none : place_at (entities_in es) u s ≡ None = place_seen es u s ∙ ap (λ o. lookup (is_rank s) (option_map_or (λ (rows : Rows). rows) (option_map rows_in o) [])) (ap (λ x. lookup (at_entity x) es) (sym (entity_exact t u e)) ∙ there) in
-            elim (is_rank r s) as (λ b. place_at (entities_in es) u s ≡ (if b then None else place_at (entities_in es) u s)) [ true ↦ none | false ↦ refl ]
+            let none : row_place_at (entities_in es) u s ≡ None = place_seen es u s ∙ ap (λ o. lookup (is_rank s) (option_map_or (λ (rows : Rows). rows) (option_map rows_in o) [])) (ap (λ x. lookup (at_entity x) es) (sym (entity_exact t u e)) ∙ there) in
+            elim (is_rank r s) as (λ b. row_place_at (entities_in es) u s ≡ (if b then None else row_place_at (entities_in es) u s)) [ true ↦ none | false ↦ refl ]
         | false ↦ λ e. refl
       ] refl
 
@@ -153,7 +153,7 @@ module _ {Y : Type 0} where
   pub entity_goes : (t : Entity) (r : Rank) (es ms fs : List ((String Y × String Y) × Held Y)) (m n : Held Y) → lookup (at_entity t) es ≡ Some m
       → KeepsOthers (λ x y. is_entity (entity_in x) (entity_in y)) (at_entity t) es ms → KeepsOthers (λ x y. is_entity (entity_in x) (entity_in y)) (at_entity t) ms fs → lookup (at_entity t) fs ≡ None
       → KeepsOthers (λ x y. is_rank (rank_in x) (rank_in y)) (at_rank r) m.entries n.entries → lookup (at_rank r) n.entries ≡ None → length n.entries ≡ 0
-      → PutsAt (Some (t, r)) None (entities_in es) (entities_in fs)
+      → SetsSlot (Some (t, r)) None (entities_in es) (entities_in fs)
   entity_goes t r es ms fs m n there first second gone keeps got none =
       puts_at t r None es fs None (keeps_both _ _ es ms fs first second) gone
       (λ s. sym (ap (λ l. lookup (is_rank s) (map (λ (r : (ℕ × String Y) × ℕ). (rank_in r.0, r.1)) l)) (empty n.entries none)) ∙ rows_change t r None es m n there keeps got s)

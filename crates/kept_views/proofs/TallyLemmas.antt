@@ -7,7 +7,7 @@ use Rattle.std.specs.Str.{bytes_eq}
 use Rattle.std.specs.String.{string_bytes}
 use Rattle.std.specs.declared.string.String.{String}
 use Rattle.std.proofs.lemmas.Slice.Eq.{bytes_eq-Decides}
-use Rattle.kept_views.specs.Tables.{counted}
+use Rattle.kept_views.specs.Tables.{count_in_table}
 use Rattle.kept_views.specs.steps.Moves.{CountsChange, count_in}
 use Rattle.kept_views.specs.steps.Seen.{kinds_in}
 use Rattle.kept_views.proofs.TableLemmas.{back, option_same, seen}
@@ -18,7 +18,7 @@ on_ok (Ok x) P s h = h
 on_ok (Err y) P s h = absurd (cc)
 
 -- a count that isn't 0, as a table has it
-pub counted_some : (n : ℕ) → n ≢ 0 → Some n ≡ counted n
+pub counted_some : (n : ℕ) → n ≢ 0 → Some n ≡ count_in_table n
 counted_some zero h = absurd (h refl)
 counted_some (suc n) h = refl
 

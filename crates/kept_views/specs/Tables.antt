@@ -39,9 +39,9 @@ pub record Tables : Type 0 where
 -- ---- types
 
 -- a count as a table has it: none for 0
-abbrev pub counted : ℕ → Option ℕ
-counted zero = None
-counted (suc n) = Some (suc n)
+abbrev pub count_in_table : ℕ → Option ℕ
+count_in_table zero = None
+count_in_table (suc n) = Some (suc n)
 
 -- how many of the events have the type
 abbrev pub count_of_kind : List EventValue → List ℕ → ℕ
@@ -50,16 +50,16 @@ count_of_kind events kind = count_by (λ e. bytes_eq kind (kind_of e)) events
 -- the table has each type of the events with how many of them have it, and nothing else
 abbrev pub CountsKinds : List EventValue → List (List ℕ × ℕ) → Type 0
 CountsKinds events rows =
-    (kind : List ℕ) → lookup (bytes_eq kind) rows ≡ counted (count_of_kind events kind)
+    (kind : List ℕ) → lookup (bytes_eq kind) rows ≡ count_in_table (count_of_kind events kind)
 
 -- ---- types by day
 
-abbrev pub is_day : KindDay → KindDay → Bool
-is_day x y = bytes_eq x.0 y.0 && int_eq x.1 y.1
+abbrev pub is_kind_day : KindDay → KindDay → Bool
+is_kind_day x y = bytes_eq x.0 y.0 && int_eq x.1 y.1
 
 -- whether the event has the type and, in UTC, the day; an event without a time has no day
 abbrev pub is_on : KindDay → EventValue → Bool
-is_on day e = option_map_or (is_day day) (kind_and_day e) false
+is_on day e = option_map_or (is_kind_day day) (kind_and_day e) false
 
 -- how many of the events have the type and the day
 abbrev pub count_of_day : List EventValue → KindDay → ℕ
@@ -68,7 +68,7 @@ count_of_day events day = count_by (is_on day) events
 -- the table has each type and day of the events with how many of them have both, and nothing else
 abbrev pub CountsDays : List EventValue → List (KindDay × ℕ) → Type 0
 CountsDays events rows =
-    (day : KindDay) → lookup (is_day day) rows ≡ counted (count_of_day events day)
+    (day : KindDay) → lookup (is_kind_day day) rows ≡ count_in_table (count_of_day events day)
 
 -- ---- entities
 
@@ -87,8 +87,8 @@ abbrev pub rows_of : List (Entity × Rows) → Entity → Rows
 rows_of entities entity = option_map_or (λ rows. rows) (lookup (is_entity entity) entities) []
 
 -- the place of the row of the entity that has the rank
-abbrev pub place_at : List (Entity × Rows) → Entity → Rank → Option ℕ
-place_at entities entity rank = lookup (is_rank rank) (rows_of entities entity)
+abbrev pub row_place_at : List (Entity × Rows) → Entity → Rank → Option ℕ
+row_place_at entities entity rank = lookup (is_rank rank) (rows_of entities entity)
 
 -- where the row of an event stands: in its entity, at its number and id; none without a subject
 abbrev pub slot_of : EventValue → Option (Entity × Rank)
@@ -102,7 +102,7 @@ is_slot slot entity rank = option_map_or (λ s. is_entity s.0 entity && is_rank 
 -- each row is of one of the events, which came at the row's place
 abbrev pub RowsAreOf : List EventValue → List EventValue → List (Entity × Rows) → Type 0
 RowsAreOf A events entities =
-    (entity : Entity) (rank : Rank) (place : ℕ) → place_at entities entity rank ≡ Some place
+    (entity : Entity) (rank : Rank) (place : ℕ) → row_place_at entities entity rank ≡ Some place
     → (e : EventValue) × (slice_get A place ≡ Some e) × Contains events e
     × (slot_of e ≡ Some (entity, rank))
 
@@ -110,10 +110,10 @@ RowsAreOf A events entities =
 abbrev pub EachHasRow : List EventValue → List (Entity × Rows) → Type 0
 EachHasRow events entities =
     (e : EventValue) (entity : Entity) (rank : Rank) → Contains events e
-    → slot_of e ≡ Some (entity, rank) → (place : ℕ) × (place_at entities entity rank ≡ Some place)
+    → slot_of e ≡ Some (entity, rank) → (place : ℕ) × (row_place_at entities entity rank ≡ Some place)
 
 -- the tables are those of the shown events of what came
-pub record StandsFor (A : List EventValue) (tables : Tables) : Type 0 where
+pub record AreTablesOfShown (A : List EventValue) (tables : Tables) : Type 0 where
   pub kinds : CountsKinds (shown (set_of A)) tables.kinds
   pub days : CountsDays (shown (set_of A)) tables.days
   pub rows : RowsAreOf A (shown (set_of A)) tables.entities

@@ -8,7 +8,7 @@ ghost use Rattle.inbox.specs.Shown.{shown};
 ghost use Rattle.views.specs.Latest.{latest};
 ghost use Rattle.views.specs.Question.{IsTrueOf, MayWantMemory, query_of};
 ghost use Rattle.views.specs.Tally.{tally};
-ghost use Rattle.kept_views.specs.Tables.{CountsKinds, EachHasRow, RowsAreOf, StandsFor};
+ghost use Rattle.kept_views.specs.Tables.{CountsKinds, EachHasRow, RowsAreOf, AreTablesOfShown};
 ghost use Rattle.kept_views.specs.steps.Seen.{kinds_in, entities_in};
 
 use crate::days::list_days;
@@ -80,7 +80,7 @@ impl Views {
     /// of their number, and to what is copied into it, and memory in proportion to the answer;
     /// other questions cost what `views::answer` costs. `AllocError` where memory is refused.
     pub fn answer(&self, inbox: &Inbox, query: Query) -> Result<Answer, AllocError>
-        requires { StandsFor inbox.now.arrivals self.now }
+        requires { AreTablesOfShown inbox.now.arrivals self.now }
         ensures query { IfOk result (λ a. query_of a ≡ query) }
         ensures answer { IfOk result (IsTrueOf (events inbox.now)) }
 

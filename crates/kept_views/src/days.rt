@@ -6,7 +6,7 @@ ghost use Rattle.std.specs.Option.{option_map};
 ghost use Rattle.attributes.specs.Event.{EventValue};
 ghost use Rattle.indexmap.specs.IndexMap.{hasher_of, spare};
 ghost use Rattle.views.specs.Tally.{day_cmp, kind_and_day, tally};
-ghost use Rattle.kept_views.specs.Tables.{CountsDays, KindDay, is_day};
+ghost use Rattle.kept_views.specs.Tables.{CountsDays, KindDay, is_kind_day};
 ghost use Rattle.kept_views.specs.steps.Moves.{CountsChange, day_count_in, is_own, one_less, one_more};
 ghost use Rattle.kept_views.specs.steps.Seen.{day_in, days_in};
 
@@ -40,7 +40,7 @@ pub(crate) fn day_of(alloc: Global, event: &Sequenced) -> Result<Option<DayKey>,
 pub(crate) fn raise_day(tally: &mut DayTally, day: Option<DayKey>)
     requires room { 0 < spare tally.old }
     requires fits { (k : KindDay) → day_count_in (days_in tally.old.entries) k + 1 < 2 ^ 64 }
-    ensures counts { CountsChange is_day (is_own (option_map day_in day)) one_more
+    ensures counts { CountsChange is_kind_day (is_own (option_map day_in day)) one_more
         (days_in tally.old.entries) (days_in tally.new.entries) }
     ensures hasher { hasher_of tally.new ≡ hasher_of tally.old }
 {
@@ -54,7 +54,7 @@ pub(crate) fn raise_day(tally: &mut DayTally, day: Option<DayKey>)
 /// Counts a type and day once less, where there is one; a count that falls to 0 is taken out. It
 /// takes no memory.
 pub(crate) fn lower_day(tally: &mut DayTally, day: Option<DayKey>)
-    ensures counts { CountsChange is_day (is_own (option_map day_in day)) one_less
+    ensures counts { CountsChange is_kind_day (is_own (option_map day_in day)) one_less
         (days_in tally.old.entries) (days_in tally.new.entries) }
     ensures hasher { hasher_of tally.new ≡ hasher_of tally.old }
 {

@@ -4,7 +4,7 @@ ghost use Rattle.std.specs.Prelude.{◌≡◌, IfOk, None, OnErr, OnOk, Some};
 ghost use Rattle.std.specs.Option.{option_map};
 ghost use Rattle.indexmap.specs.IndexMap.{hasher_of};
 ghost use Rattle.kept_views.specs.Tables.{slot_of};
-ghost use Rattle.kept_views.specs.steps.Moves.{PutsAt};
+ghost use Rattle.kept_views.specs.steps.Moves.{SetsSlot};
 ghost use Rattle.kept_views.specs.steps.Seen.{slot_in, entities_in};
 
 use crate::seed::Seed;
@@ -49,7 +49,7 @@ pub(crate) fn slot_of(alloc: Global, event: &Sequenced) -> Result<Option<Slot>, 
 
 /// Puts a row in.
 fn put_row(alloc: Global, entities: &mut Entities, slot: Slot, place: u64) -> Result<(), AllocError>
-    ensures ok { OnOk result (PutsAt (Some (slot_in slot)) (Some place)
+    ensures ok { OnOk result (SetsSlot (Some (slot_in slot)) (Some place)
         (entities_in entities.old.entries) (entities_in entities.new.entries)) }
     ensures err { OnErr result
         (entities_in entities.new.entries ≡ entities_in entities.old.entries) }
@@ -73,7 +73,7 @@ pub(crate) fn bring(
     slot: Option<Slot>,
     place: u64,
 ) -> Result<(), AllocError>
-    ensures ok { OnOk result (PutsAt (option_map slot_in slot) (Some place)
+    ensures ok { OnOk result (SetsSlot (option_map slot_in slot) (Some place)
         (entities_in entities.old.entries) (entities_in entities.new.entries)) }
     ensures err { OnErr result
         (entities_in entities.new.entries ≡ entities_in entities.old.entries) }
@@ -87,7 +87,7 @@ pub(crate) fn bring(
 
 /// Takes a row out; an entity without rows goes too.
 fn take_row_out(entities: &mut Entities, slot: &Slot)
-    ensures rows { PutsAt (Some (slot_in slot.now)) None
+    ensures rows { SetsSlot (Some (slot_in slot.now)) None
         (entities_in entities.old.entries) (entities_in entities.new.entries) }
     ensures hasher { hasher_of entities.new ≡ hasher_of entities.old }
 {
@@ -103,7 +103,7 @@ fn take_row_out(entities: &mut Entities, slot: &Slot)
 /// Empties a slot, where there is one. It takes no memory. Time logarithmic in the rows of the
 /// entity.
 pub(crate) fn clear(entities: &mut Entities, slot: Option<Slot>)
-    ensures rows { PutsAt (option_map slot_in slot) None
+    ensures rows { SetsSlot (option_map slot_in slot) None
         (entities_in entities.old.entries) (entities_in entities.new.entries) }
     ensures hasher { hasher_of entities.new ≡ hasher_of entities.old }
 {

@@ -2,8 +2,8 @@
 
 ghost use Rattle.std.specs.Prelude.{◌≡◌, ◌≢◌, ◌+◌, ◌<◌, [], IfOk, OnErr, OnOk, Some, length, replicate};
 ghost use Rattle.inbox.specs.Kept.{events};
-ghost use Rattle.kept_views.specs.Tables.{StandsFor};
-ghost use Rattle.kept_views.specs.steps.Among.{AreOf, shown_before};
+ghost use Rattle.kept_views.specs.Tables.{AreTablesOfShown};
+ghost use Rattle.kept_views.specs.steps.Among.{AreTablesOf, shown_before};
 
 use crate::kept::Views;
 use inbox::Inbox;
@@ -17,7 +17,7 @@ impl Views {
     /// events, times the logarithm of their number. Memory is wanted for what the tables keep, and
     /// for hidden events none.
     pub fn of(alloc: Global, state: RandomState, inbox: &Inbox) -> Result<Views, AllocError>
-        ensures stands { IfOk result (StandsFor inbox.now.arrivals) }
+        ensures stands { IfOk result (AreTablesOfShown inbox.now.arrivals) }
         ensures states { IfOk result (λ views. views.states ≡ replicate 3 (Some state)) }
 
         // Without events no memory is wanted.
@@ -33,9 +33,9 @@ impl Views {
     /// Counts the event at place i of key order in, if it is shown; those before it have been.
     fn admit_at(&mut self, inbox: &Inbox, i: u64) -> Result<(), AllocError>
         requires in_range { i < length (events inbox.now) }
-        requires before { AreOf inbox.now.arrivals (shown_before i (events inbox.now)) self.old }
+        requires before { AreTablesOf inbox.now.arrivals (shown_before i (events inbox.now)) self.old }
         ensures counted { OnOk result
-            (AreOf inbox.now.arrivals (shown_before (i + 1) (events inbox.now)) self.new) }
+            (AreTablesOf inbox.now.arrivals (shown_before (i + 1) (events inbox.now)) self.new) }
         ensures states { self.new.states ≡ self.old.states }
     {
         if !inbox.is_shown(i) {

@@ -9,7 +9,7 @@ ghost use Rattle.inbox.specs.Ordered.{IsGapFor, append_new, has};
 ghost use Rattle.inbox.specs.Sets.{set_of};
 ghost use Rattle.inbox.specs.Shown.{is_shown};
 ghost use Rattle.views.specs.Tally.{kind_and_day};
-ghost use Rattle.kept_views.specs.Tables.{KindDay, StandsFor};
+ghost use Rattle.kept_views.specs.Tables.{KindDay, AreTablesOfShown};
 ghost use Rattle.kept_views.specs.steps.Moves.{ComesIn, GoesOut, count_in, day_count_in, slot_apart};
 ghost use Rattle.kept_views.specs.steps.Seen.{day_in, slot_in};
 
@@ -70,7 +70,7 @@ impl Views {
     /// The views of no events. Keys are hashed by the random state, which nobody else knows, so
     /// events from outside may come. They take no memory.
     pub fn with_hasher(alloc: Global, state: RandomState) -> Views
-        ensures stands { StandsFor [] result }
+        ensures stands { AreTablesOfShown [] result }
         ensures states { result.states ≡ replicate 3 (Some state) }
     {
         Views::with_seed(alloc, Seed::random(state))
@@ -81,7 +81,7 @@ impl Views {
     /// in proportion to them. What takes events from outside calls `with_hasher`. They take no
     /// memory.
     pub fn empty(alloc: Global) -> Views
-        ensures stands { StandsFor [] result }
+        ensures stands { AreTablesOfShown [] result }
         ensures states { result.states ≡ replicate 3 None }
     {
         Views::with_seed(alloc, Seed::known())
@@ -89,7 +89,7 @@ impl Views {
 
     /// The views of no events, hashed by a seed.
     fn with_seed(alloc: Global, seed: Seed) -> Views
-        ensures stands { StandsFor [] result }
+        ensures stands { AreTablesOfShown [] result }
         ensures states { result.states ≡ replicate 3 seed.state }
     {
         Views {
@@ -105,9 +105,9 @@ impl Views {
     /// there, or that isn't shown, changes nothing and needs no memory. After a refusal nothing has
     /// changed. A search of the inbox, and the time of `put_at`.
     pub fn put(&mut self, inbox: &Inbox, event: &Sequenced) -> Result<(), AllocError>
-        requires { StandsFor inbox.now.arrivals self.old }
+        requires { AreTablesOfShown inbox.now.arrivals self.old }
         ensures stands { OnOk result
-            (StandsFor (append_new key_cmp inbox.now.arrivals (event.now ∷ [])) self.new) }
+            (AreTablesOfShown (append_new key_cmp inbox.now.arrivals (event.now ∷ [])) self.new) }
         ensures same { OnErr result (self.new ≡ self.old) }
         ensures states { self.new.states ≡ self.old.states }
 
@@ -127,11 +127,11 @@ impl Views {
     /// source and subject, and a search of the inbox where another event has its source and id; a
     /// type, day, source or subject that is new is copied, and an id in any case.
     pub fn put_at(&mut self, inbox: &Inbox, event: &Sequenced, gap: u64) -> Result<(), AllocError>
-        requires stands { StandsFor inbox.now.arrivals self.old }
+        requires stands { AreTablesOfShown inbox.now.arrivals self.old }
         requires new { has key_cmp inbox.now.arrivals event.now ≡ false }
         requires gap { IsGapFor key_cmp (events inbox.now) event.now gap }
         ensures stands { OnOk result
-            (StandsFor (append_new key_cmp inbox.now.arrivals (event.now ∷ [])) self.new) }
+            (AreTablesOfShown (append_new key_cmp inbox.now.arrivals (event.now ∷ [])) self.new) }
         ensures same { OnErr result (self.new ≡ self.old) }
         ensures states { self.new.states ≡ self.old.states }
         ensures shown { OnErr result
@@ -146,10 +146,10 @@ impl Views {
 
     /// `put` of an event that isn't there, where another may have its source and id.
     fn put_beside(&mut self, inbox: &Inbox, event: &Sequenced) -> Result<(), AllocError>
-        requires stands { StandsFor inbox.now.arrivals self.old }
+        requires stands { AreTablesOfShown inbox.now.arrivals self.old }
         requires new { has key_cmp inbox.now.arrivals event.now ≡ false }
         ensures stands { OnOk result
-            (StandsFor (append_new key_cmp inbox.now.arrivals (event.now ∷ [])) self.new) }
+            (AreTablesOfShown (append_new key_cmp inbox.now.arrivals (event.now ∷ [])) self.new) }
         ensures same { OnErr result (self.new ≡ self.old) }
         ensures states { self.new.states ≡ self.old.states }
         ensures shown { OnErr result

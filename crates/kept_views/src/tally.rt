@@ -3,7 +3,7 @@
 ghost use Rattle.std.specs.Prelude.{◌≡◌, ◌+◌, ◌-◌, ◌<◌, ◌≤◌, ◌^◌, ℕ, List, Some, bytes_eq, string_bytes, if◌then◌else◌};
 ghost use Rattle.std.specs.Option.{unwrap_or};
 ghost use Rattle.indexmap.specs.IndexMap.{get_by_text, hasher_of, spare};
-ghost use Rattle.kept_views.specs.Tables.{counted};
+ghost use Rattle.kept_views.specs.Tables.{count_in_table};
 
 use crate::seed::Seed;
 use indexmap::IndexMap;
@@ -29,7 +29,7 @@ pub(crate) fn raise(tally: &mut Tally, text: String)
 pub(crate) fn lower(tally: &mut Tally, text: &str)
     requires counted { 0 < unwrap_or (get_by_text tally.old text.now) 0 }
     ensures counts { (k : List ℕ) → get_by_text tally.new k ≡ (if bytes_eq text.now k
-        then counted (unwrap_or (get_by_text tally.old text.now) 0 - 1)
+        then count_in_table (unwrap_or (get_by_text tally.old text.now) 0 - 1)
         else get_by_text tally.old k) }
     ensures hasher { hasher_of tally.new ≡ hasher_of tally.old }
 {

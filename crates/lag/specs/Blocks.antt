@@ -2,7 +2,7 @@
 use Rattle.std.specs.Prelude.{◌+◌, ◌-◌, ℕ, zero, suc, List, [], ◌∷◌, ◌++◌, Bool, true, false, filter, is_none, length, max, not, if◌then◌else◌}
 use Rattle.block_digests.specs.Block.{block_of}
 use Rattle.block_digests.specs.Digest.{is_one_digest}
-use Rattle.coverage.specs.Digests.{digest_at}
+use Rattle.coverage.specs.Digests.{block_digest_at}
 use Rattle.coverage.specs.Intervals.{Interval}
 use Rattle.coverage.specs.Summary.{Entries, Sources, entries_of}
 
@@ -21,8 +21,8 @@ blocks_from k (p ∷ ps) =
 -- whether a block of the first summary counts: where those are asked for that it has alone, one of
 -- which the second has no digest; else one of which it hasn't the same
 abbrev pub is_apart : Sources → Sources → Bool → List ℕ → ℕ → Bool
-is_apart first second alone source k = if alone then is_none (digest_at second source k)
-    else not (is_one_digest (digest_at first source k) (digest_at second source k))
+is_apart first second alone source k = if alone then is_none (block_digest_at second source k)
+    else not (is_one_digest (block_digest_at first source k) (block_digest_at second source k))
 
 -- how many of these blocks count
 abbrev pub apart_in : Sources → Sources → Bool → List ℕ → List ℕ → ℕ

@@ -2,7 +2,7 @@
 
 ghost use Rattle.std.specs.Prelude.{◌≡◌, ◌≤◌, ◌<◌, ◌-◌, filter, length, option_copied, IfOk, IsTrue};
 ghost use Rattle.block_digests.specs.Digest.{is_one_digest};
-ghost use Rattle.coverage.specs.Digests.{digest_at};
+ghost use Rattle.coverage.specs.Digests.{block_digest_at};
 ghost use Rattle.coverage.specs.Summary.{entries_of, version_of};
 ghost use Rattle.lag.specs.Blocks.{apart, apart_in, apart_of, differing, is_apart, span};
 

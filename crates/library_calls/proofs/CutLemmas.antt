@@ -17,7 +17,7 @@ use Rattle.parts.specs.declared.fault.CombineFault.TheVariants as fault
 use Rattle.views.specs.declared.query.Query.{Query}
 use Rattle.views.specs.declared.query.Query.TheVariants as query
 use Rattle.library_calls.specs.Calls.{IsDoneOrWant, question_number}
-use Rattle.library_calls.specs.Parts.{IsNoText, IsWholeSummary, TellsFault, TellsStatus, Texts, combine_status, cut, summaries_of, summary_lengths, summary_number}
+use Rattle.library_calls.specs.Parts.{IsNoPartText, IsWholeSummary, TellsCombineFault, TellsCombineStatus, Texts, combine_status, cut, summaries_of, summary_lengths, summary_number}
 use Rattle.library_calls.specs.declared.part_calls.CombineReply.{CombineReply}
 use Rattle.library_calls.specs.declared.part_calls.TextFault.{TextFault}
 use Rattle.library_calls.specs.declared.part_calls.TextFault.TheVariants as text
@@ -60,8 +60,8 @@ place_of (text.NoText i) = i
 place_of text.OutOfMemory = 0
 
 -- a fault of the text at one place is one of no other
-pub told : (bytes lengths : List ℕ) (i j : ℕ) → IsNoText bytes lengths i → text.NoText i ≡ text.NoText j → IsNoText bytes lengths j
-told bytes lengths i j none same = subst (λ (k : ℕ). IsNoText bytes lengths k) (ap place_of same) none
+pub told : (bytes lengths : List ℕ) (i j : ℕ) → IsNoPartText bytes lengths i → text.NoText i ≡ text.NoText j → IsNoPartText bytes lengths j
+told bytes lengths i j none same = subst (λ (k : ℕ). IsNoPartText bytes lengths k) (ap place_of same) none
 
 -- the lengths up to a place and its own
 pub sum_more : (lengths : List ℕ) (i : ℕ) → i < length lengths → sum (take (i + 1) lengths) ≡ sum (take i lengths) + get_or lengths i 0
@@ -98,7 +98,7 @@ at_place P xs i x all is =
 
 -- no text of texts that are all there is one that isn't
 pub all_there : (bytes lengths : List ℕ) (i : ℕ) → sum lengths ≤ length bytes → All IsUtf8 (cut bytes lengths)
-    → IsNoText bytes lengths i → ⊥
+    → IsNoPartText bytes lengths i → ⊥
 all_there bytes lengths i fit all (n, there, inl short) = omega (arith, fit, short, sum_by-take-le (λ x. x) lengths (i + 1))
 all_there bytes lengths i fit all (n, there, inr (text, is, odd)) = odd (at_place IsUtf8 (cut bytes lengths) i text all is)
 
@@ -152,7 +152,7 @@ same_fault : (f g : CombineFault) (r : Result (List ℕ) CombineFault) → r ≡
 same_fault f g r one other = cc
 
 -- what is told of a result that wants memory alone
-pub done_or_want : (P : List ℕ → Type 0) (Q : CombineFault → Type 0) (r : Result (List ℕ) CombineFault) (reply : CombineReply) → IfOk r (λ t. TellsStatus 0 reply × P t)
-    → IfErr r (λ f. TellsFault f reply × Q f) → OnErr r (r ≡ Err fault.OutOfMemory) → IsDoneOrWant reply.status
+pub done_or_want : (P : List ℕ → Type 0) (Q : CombineFault → Type 0) (r : Result (List ℕ) CombineFault) (reply : CombineReply) → IfOk r (λ t. TellsCombineStatus 0 reply × P t)
+    → IfErr r (λ f. TellsCombineFault f reply × Q f) → OnErr r (r ≡ Err fault.OutOfMemory) → IsDoneOrWant reply.status
 done_or_want P Q (Ok text) reply ok err want = inl ok.0.0
 done_or_want P Q (Err f) reply ok err want = inr (err.0.0 ∙ ap combine_status (same_fault f fault.OutOfMemory (Err f) refl want))

@@ -17,7 +17,7 @@ use Rattle.outbox.specs.declared.fault.OutboxFault.{OutboxFault}
 use Rattle.outbox.specs.declared.fault.OutboxFault.TheVariants.{OutOfMemory, Store}
 use Rattle.durable_site.specs.Files.{Closes, IsOver}
 use Rattle.library_calls.specs.Files.{untold}
-use Rattle.library_calls.specs.Outboxes.{Carries, Finds, FindsMeant, IsGiven, Serves, outbox_status, source_of}
+use Rattle.library_calls.specs.Outboxes.{Carries, FindsServiceOrWhy, FindsMeant, IsGiven, Serves, outbox_status, source_if_made}
 use Rattle.library_calls.specs.declared.outbox_calls.Unserved.{Unserved}
 
 module _ {S : Type 0} (g : Ghosts S) where
@@ -56,7 +56,7 @@ filled : is_filled (codes "/orders") ≡ true
 unfolding chars
 filled = refl
 
-pub own_allowed : (base : ℕ) → base ≤ max_sequence → IsAllowed (source_of 0 []) base
+pub own_allowed : (base : ℕ) → base ≤ max_sequence → IsAllowed (source_if_made 0 []) base
 own_allowed base high = record {
   text = IsUtf8-from_is_utf8 (codes "/orders") is_text;
   filled = filled;
@@ -65,7 +65,7 @@ own_allowed base high = record {
 }
 
 -- one that is given is that of the service that is made
-pub named : (has_source : ℕ) (source : List ℕ) → has_source ≢ 0 → source_of has_source source ≡ source
+pub named : (has_source : ℕ) (source : List ℕ) → has_source ≢ 0 → source_if_made has_source source ≡ source
 named has_source source given =
     let test : nat_eq has_source 0 ≡ false = grind (arith, nat_tests, given) in
     ap (λ (b : Bool). if b then codes "/orders" else source) test
@@ -74,7 +74,7 @@ named has_source source given =
 module _ {D : Type 0} {g : disk.Ghosts D} where
   pub serves : (has_source : ℕ) (source : List ℕ) (base : ℕ) (first : Held (FileStore D g)) (s : Shown (FileStore D g))
       → IsGiven has_source source base → IsOver untold first
-      → FindsMeant has_source (source_of has_source source) base (file_state first) s (file_state s.conn)
+      → FindsMeant has_source (source_if_made has_source source) base (file_state first) s (file_state s.conn)
       → Serves has_source source base (Ok s)
   serves has_source source base first s given over found = record {
     given = given;
@@ -87,7 +87,7 @@ module _ {D : Type 0} {g : disk.Ghosts D} where
   -- where none is, the files were closed
   pub serves_none : (has_source : ℕ) (source : List ℕ) (base : ℕ) (first : Held (FileStore D g)) (u : Unserved (FileStore D g)) (status : ℕ)
       → IsGiven has_source source base → IsOver untold first
-      → Finds over_files has_source (source_of has_source source) base (file_state first) (Err u)
+      → FindsServiceOrWhy over_files has_source (source_if_made has_source source) base (file_state first) (Err u)
       → status ≡ u.status → Closes u.conn → Serves {D = D} {g = g} has_source source base (Err status)
   serves_none has_source source base first u status given over found told closes = inr (inr (
     given,

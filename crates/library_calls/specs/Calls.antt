@@ -3,7 +3,7 @@ use Rattle.std.specs.Prelude.{◌≡◌, ◌≢◌, ◌+◌, ◌*◌, ◌<◌, �
 use Rattle.attributes.specs.Event.{EventValue}
 use Rattle.event_json.specs.BatchText.{batch_text}
 use Rattle.coverage.specs.Digests.{Digests}
-use Rattle.coverage.specs.Refusals.{Refuses}
+use Rattle.coverage.specs.Refusals.{RefusesSummary}
 use Rattle.coverage.specs.Summary.{IsSummary, Sources}
 use Rattle.coverage.specs.SummaryText.{summary_text}
 use Rattle.coverage.specs.declared.fault.SummaryFault.{SummaryFault}
@@ -11,19 +11,21 @@ use Rattle.coverage.specs.declared.fault.SummaryFault.TheVariants as summary
 use Rattle.inbox.specs.KeyOrder.{key_cmp}
 use Rattle.inbox.specs.Ordered.{append_new}
 use Rattle.inbox.specs.Sets.{set_of}
-use Rattle.site.specs.Arrival.{LacksAt as LacksEvent}
+use Rattle.site.specs.Arrival.{LacksArrivalAt as LacksEvent}
 use Rattle.site.specs.Delta.{delta}
 use Rattle.site.specs.Page.{page}
 use Rattle.fault_lines.specs.Lines.{IsFaultText}
-use Rattle.file_reports.specs.Numbers.{fault_number}
-use Rattle.file_reports.specs.Reports.{IsRefusal, SpellAll}
-use Rattle.file_reports.specs.declared.refusal.Refused.{Refused}
+use Rattle.event_files.specs.Numbers.{fault_number}
+use Rattle.event_files.specs.Files.{IsRefusal, SpellAll}
+use Rattle.event_files.specs.declared.refusal.Refused.{Refused}
 use Rattle.views.specs.Question.{IsAnswer}
 use Rattle.views.specs.declared.query.Query.{Query}
 use Rattle.views.specs.declared.query.Query.TheVariants as query
 use Rattle.library_calls.specs.declared.calls.Piece.{Piece}
 use Rattle.library_calls.specs.declared.calls.Reply.{Reply}
 use Rattle.library_calls.specs.declared.held.Held.{Held}
+pub use Rattle.event_json.specs.BatchText.{batch_line}
+pub use Rattle.coverage.specs.SummaryText.{WithoutLineEnd}
 
 -- ---- a site opened
 
@@ -71,8 +73,8 @@ Took bytes held kept reply = TookBytes bytes held.site kept.site reply
 -- ---- texts answered
 
 -- the text is the one that was made, which has so many events as a page
-abbrev pub IsKept : List ℕ → ℕ → List ℕ → Reply → Type 0
-IsKept made listed text reply = (reply.status ≡ 0) × (text ≡ made) × (reply.listed ≡ listed)
+abbrev pub IsReplyKept : List ℕ → ℕ → List ℕ → Reply → Type 0
+IsReplyKept made listed text reply = (reply.status ≡ 0) × (text ≡ made) × (reply.listed ≡ listed)
 
 -- the text is that of before, and this is the status
 abbrev pub IsLeft : ℕ → List ℕ → List ℕ → Reply → Type 0
@@ -88,14 +90,14 @@ abbrev pub TakesNone : Held → Held → Reply → Type 0
 TakesNone held kept reply = (kept.site ≡ held.site) × (reply.fresh ≡ 0) × (reply.repeated ≡ 0)
 
 -- the text is kept, which has so many events as a page
-abbrev pub KeepsText : List ℕ → ℕ → Held → Held → Reply → Type 0
-KeepsText text listed held kept reply = (reply.status ≡ 0) × (kept.text ≡ text)
+abbrev pub KeepsReplyText : List ℕ → ℕ → Held → Held → Reply → Type 0
+KeepsReplyText text listed held kept reply = (reply.status ≡ 0) × (kept.text ≡ text)
     × (reply.listed ≡ listed) × TakesNone held kept reply × TellsRoom kept reply
 
 -- a call answers with a text that has so many events as a page, or tells by its status why there
 -- is none; then the text of before stays. The events stay.
-abbrev pub Answers : (List ℕ → ℕ → Type 0) → (ℕ → Type 0) → Held → Held → Reply → Type 0
-Answers made refused held kept reply =
+abbrev pub AnswersCall : (List ℕ → ℕ → Type 0) → (ℕ → Type 0) → Held → Held → Reply → Type 0
+AnswersCall made refused held kept reply =
     (((reply.status ≡ 0) × made kept.text reply.listed)
     ⊎ (refused reply.status × (kept.text ≡ held.text) × (reply.listed ≡ 0)))
     × TakesNone held kept reply × TellsRoom kept reply
@@ -137,7 +139,7 @@ IsUnanswered number E status =
 
 -- what `jumbetai_site_ask` leaves and replies
 abbrev pub Asked : ℕ → Held → Held → Reply → Type 0
-Asked number held kept reply = Answers (AnswersAt number (set_of held.site))
+Asked number held kept reply = AnswersCall (AnswersAt number (set_of held.site))
     (IsUnanswered number (set_of held.site)) held kept reply
 
 -- ---- the summary
@@ -148,16 +150,10 @@ IsSummaryLine E text = (s : Sources) × Digests E s × (text ≡ summary_text s 
 
 -- what `jumbetai_site_summary` leaves and replies
 abbrev pub Summed : Held → Held → Reply → Type 0
-Summed held kept reply = Answers
+Summed held kept reply = AnswersCall
     (λ text listed. IsSummaryLine (set_of held.site) text × (listed ≡ 0)) IsWant held kept reply
 
 -- ---- pages
-
--- the text is the rest of these bytes before one LF at their end, or all of them where none is
--- there
-abbrev pub WithoutLineEnd : List ℕ → List ℕ → Type 0
-WithoutLineEnd bytes text = (bytes ≡ text ++ 10 ∷ [])
-    ⊎ ((bytes ≡ text) × ((front : List ℕ) → bytes ≢ front ++ 10 ∷ []))
 
 -- the bytes are the summary's text, or its line
 abbrev pub IsPeer : List ℕ → Sources → Type 0
@@ -174,11 +170,7 @@ summary_status summary.NotCanonical = 8
 -- why the bytes give no page: they are no summary's text, or memory ran out
 abbrev pub IsRefusedPeer : List ℕ → ℕ → Type 0
 IsRefusedPeer bytes status = (text : List ℕ) × WithoutLineEnd bytes text
-    × ((why : SummaryFault) × (status ≡ summary_status why) × Refuses text why)
-
--- a batch of events, as one line
-abbrev pub batch_line : List EventValue → List ℕ
-batch_line events = batch_text events ++ 10 ∷ []
+    × ((why : SummaryFault) × (status ≡ summary_status why) × RefusesSummary text why)
 
 -- the text is the line of these events, and so many they are
 abbrev pub IsPageLine : List EventValue → List ℕ → ℕ → Type 0
@@ -186,19 +178,19 @@ IsPageLine events text listed = (text ≡ batch_line events) × (listed ≡ leng
 
 -- the text is the page from this place on of what the peer of the bytes lacks of the set E, at most
 -- 100 events
-abbrev pub LacksAt : List ℕ → ℕ → List EventValue → List ℕ → ℕ → Type 0
-LacksAt bytes from E text listed =
+abbrev pub LacksPageAt : List ℕ → ℕ → List EventValue → List ℕ → ℕ → Type 0
+LacksPageAt bytes from E text listed =
     (s : Sources) × IsPeer bytes s × IsPageLine (page (delta E s) from 100) text listed
 
 -- what `jumbetai_site_delta` leaves and replies
 abbrev pub Lacked : List ℕ → ℕ → Held → Held → Reply → Type 0
-Lacked bytes from held kept reply = Answers (LacksAt bytes from (set_of held.site))
+Lacked bytes from held kept reply = AnswersCall (LacksPageAt bytes from (set_of held.site))
     (IsRefusedPeer bytes) held kept reply
 
 -- what `jumbetai_site_page` leaves and replies: the page from this place of key order on, at most
 -- 100 events
 abbrev pub Paged : ℕ → Held → Held → Reply → Type 0
-Paged from held kept reply = Answers (IsPageLine (page (set_of held.site) from 100))
+Paged from held kept reply = AnswersCall (IsPageLine (page (set_of held.site) from 100))
     IsWant held kept reply
 
 -- ---- what is wrong with bytes
@@ -206,7 +198,7 @@ Paged from held kept reply = Answers (IsPageLine (page (set_of held.site) from 1
 -- what `jumbetai_site_check` leaves and replies: the lines that tell of a file `-` what is wrong
 -- with it
 abbrev pub Checked : List ℕ → Held → Held → Reply → Type 0
-Checked bytes held kept reply = Answers
+Checked bytes held kept reply = AnswersCall
     (λ text listed. IsFaultText (codes "-") bytes text × (listed ≡ 0)) IsWant held kept reply
 
 -- ---- views kept
@@ -228,8 +220,8 @@ piece_of number text = take 4096 (drop (number * 4096) text)
 
 -- what `jumbetai_site_read` leaves and copies: the piece, and how many bytes it has; the room behind
 -- it stays
-abbrev pub HasRead : ℕ → Held → Held → Piece → Piece → Type 0
-HasRead number held kept was piece = (kept ≡ held)
+abbrev pub HasReadPiece : ℕ → Held → Held → Piece → Piece → Type 0
+HasReadPiece number held kept was piece = (kept ≡ held)
     × (piece.length ≡ length (piece_of number held.text))
     × (take piece.length piece.bytes ≡ piece_of number held.text)
     × (drop piece.length piece.bytes ≡ drop piece.length was.bytes)

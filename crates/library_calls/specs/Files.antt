@@ -9,14 +9,14 @@ use Rattle.attributes.specs.Event.{EventValue}
 use Rattle.inbox_table.specs.Calls.{MayTake}
 use Rattle.inbox_table.specs.declared.fault.TableFault.{TableFault}
 use Rattle.inbox_table.specs.declared.fault.TableFault.TheVariants as table
-use Rattle.durable_site.specs.Durable.{TakeEffect, Takes, events_of}
+use Rattle.durable_site.specs.Durable.{TakeEffectOfFile, TakesBehind, events_of}
 use Rattle.durable_site.specs.Files.{Closes, IsUnopened, OpensOver, RefusesTable}
 use Rattle.durable_site.specs.declared.durable.DurableSite.{DurableSite}
 use Rattle.durable_site.specs.declared.fault.OpenFault.{OpenFault}
 use Rattle.durable_site.specs.declared.fault.OpenFault.TheVariants as opening
-use Rattle.file_reports.specs.Numbers.{fault_number}
-use Rattle.file_reports.specs.Reports.{IsRefusal, SpellAll}
-use Rattle.file_reports.specs.declared.refusal.Refused.{Refused}
+use Rattle.event_files.specs.Numbers.{fault_number}
+use Rattle.event_files.specs.Files.{IsRefusal, SpellAll}
+use Rattle.event_files.specs.declared.refusal.Refused.{Refused}
 use Rattle.library_calls.specs.Sets.{Arrived, Released}
 use Rattle.library_calls.specs.Calls.{Asked, Checked, IsWant, Lacked, Paged, Summed, Viewed, piece_of}
 use Rattle.library_calls.specs.declared.calls.Piece.{Piece}
@@ -48,14 +48,14 @@ abbrev pub untold : Image
 untold = record { log = []; db = [] }
 
 -- the status of events that are kept, by what is owed then
-abbrev pub IsCounted : ℕ → List EventValue → Type 0
-IsCounted status owed = ((status ≡ 0) × (owed ≡ [])) ⊎ ((status ≡ 20) × (owed ≢ []))
+abbrev pub IsStatusOfOwed : ℕ → List EventValue → Type 0
+IsStatusOfOwed status owed = ((status ≡ 0) × (owed ≡ [])) ⊎ ((status ≡ 20) × (owed ≢ []))
 
 -- the reply to what the table came to, of so many events, after which these are owed
 abbrev pub RepliesKept : ℕ → Result ℕ TableFault → List EventValue → Reply → Type 0
 RepliesKept count result owed reply = MatchResult result
     (λ fresh. (reply.fresh ≡ fresh) × (reply.repeated ≡ count - fresh)
-    × IsCounted reply.status owed)
+    × IsStatusOfOwed reply.status owed)
     (λ fault. (reply.status ≡ table_status fault) × (reply.fresh ≡ 0) × (reply.repeated ≡ 0))
 
 module _ (D : Type 0) (g : disk.Ghosts D) where
@@ -89,8 +89,8 @@ module _ {D : Type 0} {g : disk.Ghosts D} where
   pub record KeepsBatch (batch : List EventValue) (d e : DurableSite (FileStore D g)) (reply : Reply)
       : Type 0 where
     pub result : Result ℕ TableFault
-    pub takes : Takes batch (events_of d) (events_of e) result
-    pub effect : HasCleanDisk (file_state e.table.conn) → TakeEffect batch (events_of d)
+    pub takes : TakesBehind batch (events_of d) (events_of e) result
+    pub effect : HasCleanDisk (file_state e.table.conn) → TakeEffectOfFile batch (events_of d)
         (events_of e) (file_state d.table.conn) (file_state e.table.conn) result
     -- a crash leaves none of the batch, or all
     pub crash : Survives (file_state d.table.conn) (file_state e.table.conn)

@@ -13,7 +13,7 @@ use Rattle.inbox_table.specs.Opening.{MayOpen, Opens}
 use Rattle.inbox_table.specs.Rows.{IsAnyInbox}
 use Rattle.numbers.specs.Refusal.{refusal_from}
 use Rattle.numbers.specs.declared.fault.NumberFault.{NumberFault}
-use Rattle.number_table.specs.Calls.{LeavesNumbers, MayNumber, NoneLeaves, NumberEffect, RejectsNumbers, Stands}
+use Rattle.number_table.specs.Calls.{LeavesNumbers, MayNumber, NoneLeaves, NumberEffect, RejectsNumbers, StandsNumbered}
 use Rattle.number_table.specs.Fault.{of_numbers}
 use Rattle.number_table.specs.declared.fault.NumbererFault.{NumbererFault}
 use Rattle.number_table.specs.declared.fault.NumbererFault.TheVariants as fault
@@ -96,7 +96,7 @@ module _ {D : Type 0} {g : disk.Ghosts D} where
     pub base_is : n.base ≡ base
     pub opens : HasCleanDisk (file_state n.table.conn) → (events rows : List EventValue)
         × Opens (λ _ _. ⊤) (file_state first) (file_state n.table.conn) rows
-        × Stands base events rows (file_state n.table.conn) n.counted
+        × StandsNumbered base events rows (file_state n.table.conn) n.counted
     -- no fault of the disk is forgotten, and a crash leaves it as it was, or with the table that was
     -- to be made
     pub crash : Survives (file_state first) (file_state n.table.conn)

@@ -10,11 +10,11 @@ use Rattle.inbox_table.specs.Calls.{MayTake, joined}
 use Rattle.inbox_table.specs.declared.fault.TableFault.{TableFault}
 use Rattle.durable_site.specs.Durable.{TakeEachEffect, TakesEach, events_of}
 use Rattle.durable_site.specs.declared.durable.DurableSite.{DurableSite}
-use Rattle.file_reports.specs.Numbers.{fault_number}
-use Rattle.file_reports.specs.Reports.{IsRefusal, SpellAll}
-use Rattle.file_reports.specs.declared.refusal.Refused.{Refused}
+use Rattle.event_files.specs.Numbers.{fault_number}
+use Rattle.event_files.specs.Files.{IsRefusal, SpellAll}
+use Rattle.event_files.specs.declared.refusal.Refused.{Refused}
 use Rattle.library_calls.specs.Calls.{IsWant}
-use Rattle.library_calls.specs.Files.{IsCounted, IsNotOpen, table_status}
+use Rattle.library_calls.specs.Files.{IsStatusOfOwed, IsNotOpen, table_status}
 use Rattle.library_calls.specs.declared.calls.Reply.{Reply}
 use Rattle.library_calls.specs.declared.file_held.FileHeld.{FileHeld}
 use Rattle.library_calls.specs.declared.offers.Head.{Head}
@@ -27,14 +27,14 @@ no_offers = record { heads = []; batches = []; each = []; status = 0 }
 -- ---- bodies offered
 
 -- a body spells events with numbers, and so many; or it is refused, and this is why
-abbrev pub Reads : List ℕ → Head → List EventValue → Type 0
-Reads bytes head batch =
+abbrev pub ReadsBody : List ℕ → Head → List EventValue → Type 0
+ReadsBody bytes head batch =
     (SpellAll (bytes ∷ []) batch × (head.status ≡ 0) × (head.count ≡ length batch))
     ⊎ ((refused : Refused) × IsRefusal (bytes ∷ []) refused
     × (head.status ≡ fault_number refused.fault) × (head.count ≡ 0) × (batch ≡ []))
 
--- a body stands behind those that were offered
-pub record IsBehind (head : Head) (batch : List EventValue) (was is : Offers) : Type 0 where
+-- one caller's bytes, read, stand behind those that were offered to be taken in one transaction
+pub record IsOfferedBehind (head : Head) (batch : List EventValue) (was is : Offers) : Type 0 where
   pub heads : is.heads ≡ was.heads ++ head ∷ []
   pub batches : is.batches ≡ was.batches ++ batch ∷ []
 
@@ -43,8 +43,8 @@ pub record IsBehind (head : Head) (batch : List EventValue) (was is : Offers) : 
 pub record Offered (bytes : List ℕ) (held kept : FileHeld) (reply : Reply) : Type 0 where
   pub durable : kept.durable ≡ held.durable
   pub text : kept.text ≡ held.text
-  pub did : ((head : Head) × (batch : List EventValue) × Reads bytes head batch
-      × IsBehind head batch held.offers kept.offers
+  pub did : ((head : Head) × (batch : List EventValue) × ReadsBody bytes head batch
+      × IsOfferedBehind head batch held.offers kept.offers
       × (reply.status ≡ head.status) × (reply.listed ≡ head.count))
       ⊎ ((kept.offers ≡ no_offers) × IsWant reply.status × (reply.listed ≡ 0))
   pub fresh : reply.fresh ≡ 0
@@ -68,7 +68,7 @@ module _ {D : Type 0} {g : disk.Ghosts D} where
     pub heads : is.heads ≡ was.heads
     pub batches : is.batches ≡ []
     pub told : MatchResult result
-        (λ each. (is.each ≡ each) × IsCounted is.status e.owed)
+        (λ each. (is.each ≡ each) × IsStatusOfOwed is.status e.owed)
         (λ fault. (is.each ≡ []) × (is.status ≡ table_status fault))
 
 -- what `jumbetai_file_keep` leaves and replies
@@ -82,8 +82,8 @@ pub record KeptOffers (held kept : FileHeld) (reply : Reply) : Type 0 where
 
 -- how many of a body's events were not there, and how many were: none of either where the table
 -- refused
-abbrev pub Counts : Head → Option ℕ → Reply → Type 0
-Counts head fresh reply = MatchOption fresh ((reply.fresh ≡ 0) × (reply.repeated ≡ 0))
+abbrev pub CountsBody : Head → Option ℕ → Reply → Type 0
+CountsBody head fresh reply = MatchOption fresh ((reply.fresh ≡ 0) × (reply.repeated ≡ 0))
     (λ n. (reply.fresh ≡ n) × (reply.repeated ≡ head.count - n))
 
 -- the reply tells what became of the body at a place: why it was refused, or what keeping all of
@@ -92,7 +92,7 @@ abbrev pub AnswerAt : Offers → ℕ → Reply → Type 0
 AnswerAt offers place reply = MatchOption (slice_get offers.heads place)
     ((reply.status ≡ 9) × (reply.fresh ≡ 0) × (reply.repeated ≡ 0))
     (λ head. (reply.status ≡ (if head.status == 0 then offers.status else head.status))
-    × Counts head (slice_get offers.each place) reply)
+    × CountsBody head (slice_get offers.each place) reply)
 
 -- what `jumbetai_file_answer` leaves and replies
 abbrev pub HasAnswer : ℕ → FileHeld → FileHeld → Reply → Type 0

@@ -7,11 +7,10 @@ use Rattle.sqlite.specs.Held.{Held, state}
 use Rattle.sqlite.specs.State.{HasCleanDisk, State}
 use Rattle.sqlite_trees.specs.declared.store.Store.{Ghosts}
 use Rattle.attributes.specs.Event.{EventValue, text as event_text}
-use Rattle.attributes.specs.Sequence.{max_sequence}
 use Rattle.attributes.specs.Time.{time_day}
-use Rattle.outbox.specs.Call.{CommandCall, CommandEffect, IsSame, IsSettled, LeavesAsBefore, ShowsAfter}
-use Rattle.outbox.specs.Opening.{IsRefused, Opens}
-use Rattle.outbox.specs.Order.{Accepted, IsCommand}
+use Rattle.outbox.specs.Call.{CommandCall, CommandEffect, IsServiceReading, IsSettled, LeavesAsBefore, ShowsAfter}
+use Rattle.outbox.specs.Opening.{IsOpeningRefused, OpensService}
+use Rattle.outbox.specs.Order.{Accepted, IsCommand, IsOrder}
 use Rattle.outbox.specs.Shown.{CountsOrders, IsAllowed, Shown}
 use Rattle.outbox.specs.declared.fault.OutboxFault.{OutboxFault}
 use Rattle.outbox.specs.declared.fault.OutboxFault.TheVariants as outbox
@@ -25,6 +24,7 @@ use Rattle.library_calls.specs.declared.calls.Piece.{Piece}
 use Rattle.library_calls.specs.declared.outbox_calls.OutboxReply.{OutboxReply}
 use Rattle.library_calls.specs.declared.outbox_calls.Unserved.{Unserved}
 use Rattle.library_calls.specs.declared.outbox_held.OutboxHeld.{OutboxHeld}
+pub use Rattle.event_json.specs.BatchText.{event_line}
 
 -- the status of a refusal of a service
 abbrev pub outbox_status : OutboxFault → ℕ
@@ -48,18 +48,14 @@ action_number Cancelled = 3
 abbrev pub IsAction : ℕ → Type 0
 IsAction action = (status : Status) × (action ≡ action_number status)
 
--- an order may have this number
-abbrev pub IsOrder : ℕ → Type 0
-IsOrder order = (1 ≤ order) × (order ≤ max_sequence)
-
 -- the bytes are a time of RFC 3339 of at most 64 bytes
-pub record IsTime (bytes : List ℕ) : Type 0 where
+pub record IsTimeInBytes (bytes : List ℕ) : Type 0 where
   pub text : IsUtf8 bytes
   pub time : time_day bytes ≢ None
   pub short : length bytes ≤ 64
 
 -- the arguments name this command
-pub record Names (action order : ℕ) (time : List ℕ) (c : Accepted) : Type 0 where
+pub record NamesCommand (action order : ℕ) (time : List ℕ) (c : Accepted) : Type 0 where
   pub action_is : action ≡ action_number c.status
   pub order_is : c.order ≡ order
   pub at_is : c.at ≡ time
@@ -70,49 +66,45 @@ pub record Names (action order : ℕ) (time : List ℕ) (c : Accepted) : Type 0 
 abbrev pub NamesNone : ℕ → ℕ → List ℕ → ℕ → Type 0
 NamesNone action order time status = ((status ≡ 29) × (IsAction action → ⊥))
     ⊎ (IsAction action × (((status ≡ 26) × (IsOrder order → ⊥))
-    ⊎ ((status ≡ 25) × IsOrder order × (IsTime time → ⊥))))
+    ⊎ ((status ≡ 25) × IsOrder order × (IsTimeInBytes time → ⊥))))
 
 -- memory for a copy of the time isn't there, and they name a command
 abbrev pub WantsTime : ℕ → ℕ → List ℕ → ℕ → Type 0
 WantsTime action order time status = IsWant status
-    × ((c : Accepted) × Names action order time c)
-
--- an event, as one line
-abbrev pub event_line : EventValue → List ℕ
-event_line e = event_text e ++ 10 ∷ []
+    × ((c : Accepted) × NamesCommand action order time c)
 
 -- ---- what a service is opened with
 
 -- the source of one that is made
-abbrev pub source_of : ℕ → List ℕ → List ℕ
-source_of has_source source = if has_source == 0 then codes "/orders" else source
+abbrev pub source_if_made : ℕ → List ℕ → List ℕ
+source_if_made has_source source = if has_source == 0 then codes "/orders" else source
 
 -- a service may have this source and this base
 abbrev pub IsGiven : ℕ → List ℕ → ℕ → Type 0
-IsGiven has_source source base = IsAllowed (source_of has_source source) base
+IsGiven has_source source base = IsAllowed (source_if_made has_source source) base
 
 -- a database has this service, or it was made there with what was given; where the source was asked
 -- for, it has that
 pub record FindsMeant {S : Type 0} (has_source : ℕ) (source : List ℕ) (base : ℕ) (old : State)
     (s : Shown S) (new : State) : Type 0 where
-  pub opens : Opens source base old s new
+  pub opens : OpensService source base old s new
   pub meant : has_source ≢ 0 → s.source ≡ source
 
 -- a source was asked for, and the service that the database has has another
 pub record FindsAnother {S : Type 0} (has_source : ℕ) (source : List ℕ) (base : ℕ) (old : State)
     (s : Shown S) (new : State) : Type 0 where
-  pub opens : Opens source base old s new
+  pub opens : OpensService source base old s new
   pub is_given : has_source ≢ 0
   pub other : s.source ≢ source
 
 -- the service of a database, or why there is none: no service can be opened in it, or the one that
 -- is there has another source. Then the connection comes back
-abbrev pub Finds : {S : Type 0} → Ghosts S → ℕ → List ℕ → ℕ → State
+abbrev pub FindsServiceOrWhy : {S : Type 0} → Ghosts S → ℕ → List ℕ → ℕ → State
     → Result (Shown S) (Unserved S) → Type 0
-Finds g has_source source base old (Ok s) = FindsMeant has_source source base old s (state g s.conn)
-Finds {S} g has_source source base old (Err u) =
+FindsServiceOrWhy g has_source source base old (Ok s) = FindsMeant has_source source base old s (state g s.conn)
+FindsServiceOrWhy {S} g has_source source base old (Err u) =
     ((fault : OutboxFault) × (u.status ≡ outbox_status fault)
-    × IsRefused source base old (state g u.conn) fault)
+    × IsOpeningRefused source base old (state g u.conn) fault)
     ⊎ ((s : Shown S) × (u.status ≡ 28) × (s.conn ≡ u.conn)
     × FindsAnother has_source source base old s (state g s.conn))
 
@@ -142,7 +134,7 @@ module _ {S : Type 0} (g : Ghosts S) where
   -- it
   abbrev pub Commands : ℕ → ℕ → List ℕ → Shown S → Shown S → List ℕ → List ℕ → ℕ → ℕ → Type 0
   Commands action order time was is text kept status number =
-      ((c : Accepted) × Names action order time c × Carries c was is text kept status number)
+      ((c : Accepted) × NamesCommand action order time c × Carries c was is text kept status number)
       ⊎ (NamesNone action order time status × (is ≡ was) × (kept ≡ text) × (number ≡ 0))
 
   -- ---- rows shown
@@ -159,7 +151,7 @@ module _ {S : Type 0} (g : Ghosts S) where
   pub record ShowsRows (after : ℕ) (was is : Shown S) (text kept : List ℕ) (status listed : ℕ)
       : Type 0 where
     pub stays : (is.source ≡ was.source) × (is.base ≡ was.base) × (is.last ≡ was.last)
-    pub same : IsSame (state g was.conn) (state g is.conn)
+    pub same : IsServiceReading (state g was.conn) (state g is.conn)
     pub crash : LeavesAsBefore (state g was.conn) (state g is.conn)
     pub shown : status ≡ 0 → (events : List EventValue) × IsPageLine events kept listed
         × (HasCleanDisk (state g is.conn) → IsNextRows after was is events)
@@ -175,7 +167,7 @@ module _ {D : Type 0} {g : disk.Ghosts D} where
     pub given : IsGiven has_source source base
     pub first : Held (FileStore D g)
     pub over : IsOver untold first
-    pub opens : Opens (source_of has_source source) base (file_state first) s (file_state s.conn)
+    pub opens : OpensService (source_if_made has_source source) base (file_state first) s (file_state s.conn)
     pub meant : has_source ≢ 0 → s.source ≡ source
 
   -- a source was given, and the service that the files have has another: it was opened, which
@@ -184,7 +176,7 @@ module _ {D : Type 0} {g : disk.Ghosts D} where
       : Type 0 where
     pub first : Held (FileStore D g)
     pub over : IsOver untold first
-    pub opens : Opens (source_of has_source source) base (file_state first) s (file_state s.conn)
+    pub opens : OpensService (source_if_made has_source source) base (file_state first) s (file_state s.conn)
     pub is_given : has_source ≢ 0
     pub other : s.source ≢ source
     pub closes : Closes s.conn
@@ -195,7 +187,7 @@ module _ {D : Type 0} {g : disk.Ghosts D} where
       (last : Held (FileStore D g)) : Type 0 where
     pub first : Held (FileStore D g)
     pub over : IsOver untold first
-    pub refused : IsRefused source base (file_state first) (file_state last) fault
+    pub refused : IsOpeningRefused source base (file_state first) (file_state last) fault
     pub closes : Closes last
 
   -- there is a service, or the status says why not: want of memory; what was given isn't a source
@@ -208,7 +200,7 @@ module _ {D : Type 0} {g : disk.Ghosts D} where
       ⊎ (IsGiven has_source source base
       × (((fault : OpenFault) × (status ≡ open_status fault) × IsUnopened D g untold fault)
       ⊎ (((fault : OutboxFault) × (last : Held (FileStore D g)) × (status ≡ outbox_status fault)
-      × RefusesOutbox (source_of has_source source) base fault last)
+      × RefusesOutbox (source_if_made has_source source) base fault last)
       ⊎ ((s : Shown (FileStore D g)) × (status ≡ 28) × IsAnother has_source source base s)))))
 
   -- the room has this service, if any, and the reply tells of it

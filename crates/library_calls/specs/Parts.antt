@@ -1,10 +1,10 @@
 -- What the calls on a region in parts leave in the room, and what they reply.
 use Rattle.std.specs.Prelude.{◌≡◌, ◌<◌, ◌≤◌, ◌≢◌, ◌+◌, ◌-◌, ◌⊎◌, ℕ, Bool, true, false, List, [], ◌∷◌, All, IsUtf8, Some, drop, if◌then◌else◌, length, nat_lt, slice_get, string_bytes, sum, take}
 use Rattle.attributes.specs.Event.{EventValue}
-use Rattle.file_reports.specs.Numbers.{fault_number}
-use Rattle.file_reports.specs.Reports.{IsRefusal, SpellAll}
-use Rattle.file_reports.specs.declared.refusal.Refused.{Refused}
-use Rattle.parts.specs.Part.{IsCount, of_parts, part, part_of}
+use Rattle.event_files.specs.Numbers.{fault_number}
+use Rattle.event_files.specs.Files.{IsRefusal, SpellAll}
+use Rattle.event_files.specs.declared.refusal.Refused.{Refused}
+use Rattle.parts.specs.Part.{IsCountOfParts, of_parts, part, part_of}
 use Rattle.parts.specs.Summaries.{AreApartSummaries, AreSummaries, IsSummaryOf, RefusesSummaries}
 use Rattle.parts.specs.Told.{IsHeld}
 use Rattle.parts.specs.Whole.{AreApartIn, ArePartsOf, RefusesParts}
@@ -13,21 +13,22 @@ use Rattle.parts.specs.declared.fault.CombineFault.TheVariants as fault
 use Rattle.views.specs.Question.{IsAnswer}
 use Rattle.views.specs.declared.query.Query.{Query}
 use Rattle.views.specs.declared.query.Query.TheVariants as query
-use Rattle.library_calls.specs.Calls.{Answers, IsDoneOrWant, IsNoQuestion, IsWant, batch_line, question_number}
+use Rattle.library_calls.specs.Calls.{AnswersCall, IsDoneOrWant, IsNoQuestion, IsWant, batch_line, question_number}
 use Rattle.library_calls.specs.declared.calls.Reply.{Reply}
 use Rattle.library_calls.specs.declared.held.Held.{Held}
 use Rattle.library_calls.specs.declared.part_calls.CombineReply.{CombineReply}
+pub use Rattle.parts.specs.Whole.{has_covers, no_answer}
 
 -- ---- the part of a source
 
 -- a region can't be in so many parts
 abbrev pub IsNoCount : ℕ → Type 0
-IsNoCount count = IsCount count → ⊥
+IsNoCount count = IsCountOfParts count → ⊥
 
 -- what `jumbetai_source_part` answers and tells
-abbrev pub TellsPart : List ℕ → ℕ → ℕ → ℕ → Type 0
-TellsPart source count status place =
-    ((status ≡ 0) × IsCount count × (place ≡ part_of count source))
+abbrev pub TellsSourcePart : List ℕ → ℕ → ℕ → ℕ → Type 0
+TellsSourcePart source count status place =
+    ((status ≡ 0) × IsCountOfParts count × (place ≡ part_of count source))
     ⊎ ((status ≡ 32) × IsNoCount count × (place ≡ 0))
 
 -- ---- events in parts
@@ -38,19 +39,19 @@ part_lines count events = of_parts count (λ i. batch_line (part (part_of count)
 
 -- the text has the events that the bytes spell, which are so many, in parts
 abbrev pub IsSplit : List ℕ → ℕ → List ℕ → ℕ → Type 0
-IsSplit bytes count text listed = IsCount count × ((batch : List EventValue)
+IsSplit bytes count text listed = IsCountOfParts count × ((batch : List EventValue)
     × SpellAll (bytes ∷ []) batch × (text ≡ part_lines count batch) × (listed ≡ length batch))
 
 -- why there are none: so many parts there can't be; the bytes are refused; memory ran out
 abbrev pub IsUnsplit : List ℕ → ℕ → ℕ → Type 0
 IsUnsplit bytes count status = ((status ≡ 32) × IsNoCount count)
-    ⊎ (IsCount count × (IsWant status ⊎ ((refused : Refused) × IsRefusal (bytes ∷ []) refused
+    ⊎ (IsCountOfParts count × (IsWant status ⊎ ((refused : Refused) × IsRefusal (bytes ∷ []) refused
     × (status ≡ fault_number refused.fault))))
 
 -- what `jumbetai_site_split` leaves and replies
 abbrev pub Split : List ℕ → ℕ → Held → Held → Reply → Type 0
 Split bytes count held kept reply =
-    Answers (IsSplit bytes count) (IsUnsplit bytes count) held kept reply
+    AnswersCall (IsSplit bytes count) (IsUnsplit bytes count) held kept reply
 
 -- ---- texts of parts
 
@@ -60,20 +61,10 @@ cut bytes [] = []
 cut bytes (n ∷ lengths) = take n bytes ∷ cut (drop n bytes) lengths
 
 -- the bytes end before the text at the place does, or it isn't UTF-8
-abbrev pub IsNoText : List ℕ → List ℕ → ℕ → Type 0
-IsNoText bytes lengths i = (n : ℕ) × (slice_get lengths i ≡ Some n)
+abbrev pub IsNoPartText : List ℕ → List ℕ → ℕ → Type 0
+IsNoPartText bytes lengths i = (n : ℕ) × (slice_get lengths i ≡ Some n)
     × ((length bytes < sum (take (i + 1) lengths))
     ⊎ ((text : List ℕ) × (slice_get (cut bytes lengths) i ≡ Some text) × (IsUtf8 text → ⊥)))
-
--- beside the answers to the question the covers of the parts stand
-abbrev pub has_covers : Query → Bool
-has_covers query.Cover = false
-has_covers query.Shown = false
-has_covers query.Conflicts = true
-has_covers query.Latest = true
-has_covers query.Kinds = true
-has_covers query.Days = true
-has_covers query.Gaps = true
 
 -- texts that a caller gives: so many answers, and behind them the covers, by how many bytes each
 -- has
@@ -91,8 +82,8 @@ abbrev pub texts_of : Query → Texts → List (List ℕ)
 texts_of q given = cut given.bytes (lengths_of q given)
 
 -- the answers
-abbrev pub answers_of : Query → Texts → List (List ℕ)
-answers_of q given = take given.answers (texts_of q given)
+abbrev pub answers_given : Query → Texts → List (List ℕ)
+answers_given q given = take given.answers (texts_of q given)
 
 -- the covers
 abbrev pub covers_of : Query → Texts → List (List ℕ)
@@ -109,20 +100,15 @@ AreTexts q given =
 abbrev pub WantsMemoryAlone : Query → Texts → Type 0 → Type 0
 WantsMemoryAlone q given Want = AreTexts q given
     → (p : List ℕ → ℕ) (E : List EventValue) → IsHeld E
-    → ArePartsOf q p E (answers_of q given) (covers_of q given) → Want
+    → ArePartsOf q p E (answers_given q given) (covers_of q given) → Want
 
 -- where the texts are the answers of the parts of a set, and its parts' covers beside them, the
 -- text is the answer over the set; they lie in the bytes, and no source stands in two of them
-pub record IsWhole (q : Query) (given : Texts) (text : List ℕ) : Type 0 where
+pub record IsWholeOfTexts (q : Query) (given : Texts) (text : List ℕ) : Type 0 where
   pub there : sum (lengths_of q given) ≤ length given.bytes
   pub combined : (p : List ℕ → ℕ) (E : List EventValue) → IsHeld E
-      → ArePartsOf q p E (answers_of q given) (covers_of q given) → IsAnswer q E text
-  pub apart : AreApartIn q (answers_of q given) (covers_of q given)
-
--- the fault of an answer that is none to the question
-abbrev pub no_answer : Query → ℕ → CombineFault
-no_answer query.Cover i = fault.NotACover i
-no_answer _ i = fault.NotAnAnswer i
+      → ArePartsOf q p E (answers_given q given) (covers_of q given) → IsAnswer q E text
+  pub apart : AreApartIn q (answers_given q given) (covers_of q given)
 
 -- the fault of a text that is none, where so many are answers
 abbrev pub no_text : Query → ℕ → ℕ → CombineFault
@@ -132,8 +118,8 @@ no_text q answers i =
 -- memory ran out; or one of the texts is none; or they are refused as the parts of a whole
 abbrev pub RefusesTexts : Query → Texts → CombineFault → Type 0
 RefusesTexts q given f = (f ≡ fault.OutOfMemory)
-    ⊎ (((i : ℕ) × (f ≡ no_text q given.answers i) × IsNoText given.bytes (lengths_of q given) i)
-    ⊎ RefusesParts q (answers_of q given) (covers_of q given) f)
+    ⊎ (((i : ℕ) × (f ≡ no_text q given.answers i) × IsNoPartText given.bytes (lengths_of q given) i)
+    ⊎ RefusesParts q (answers_given q given) (covers_of q given) f)
 
 -- the status of a fault
 abbrev pub combine_status : CombineFault → ℕ
@@ -145,13 +131,13 @@ combine_status fault.TooMany = 36
 combine_status (fault.Overlap source i j) = 37
 
 -- the part of which it tells, or the first of two; how many answers there are
-abbrev pub first_of : CombineFault → ℕ
-first_of fault.OutOfMemory = 0
-first_of (fault.NotACover i) = i
-first_of (fault.NotAnAnswer i) = i
-first_of (fault.CoverCount answers covers) = answers
-first_of fault.TooMany = 0
-first_of (fault.Overlap source i j) = i
+abbrev pub first_part_of : CombineFault → ℕ
+first_part_of fault.OutOfMemory = 0
+first_part_of (fault.NotACover i) = i
+first_part_of (fault.NotAnAnswer i) = i
+first_part_of (fault.CoverCount answers covers) = answers
+first_part_of fault.TooMany = 0
+first_part_of (fault.Overlap source i j) = i
 
 -- the second of two parts; how many covers there are
 abbrev pub second_of : CombineFault → ℕ
@@ -172,19 +158,19 @@ text_after was (fault.CoverCount answers covers) = was
 text_after was fault.TooMany = was
 
 -- the reply has this status, and tells of no parts
-abbrev pub TellsStatus : ℕ → CombineReply → Type 0
-TellsStatus status reply =
+abbrev pub TellsCombineStatus : ℕ → CombineReply → Type 0
+TellsCombineStatus status reply =
     (reply.status ≡ status) × (reply.first ≡ 0) × (reply.second ≡ 0)
 
 -- the reply tells of the fault
-abbrev pub TellsFault : CombineFault → CombineReply → Type 0
-TellsFault f reply = (reply.status ≡ combine_status f) × (reply.first ≡ first_of f)
+abbrev pub TellsCombineFault : CombineFault → CombineReply → Type 0
+TellsCombineFault f reply = (reply.status ≡ combine_status f) × (reply.first ≡ first_part_of f)
     × (reply.second ≡ second_of f)
 
 -- the text is the answer of the whole to the question; or the fault is told of
 abbrev pub AnswersWhole : Query → Texts → List ℕ → List ℕ → CombineReply → Type 0
-AnswersWhole q given was text reply = (TellsStatus 0 reply × IsWhole q given text)
-    ⊎ ((f : CombineFault) × RefusesTexts q given f × TellsFault f reply
+AnswersWhole q given was text reply = (TellsCombineStatus 0 reply × IsWholeOfTexts q given text)
+    ⊎ ((f : CombineFault) × RefusesTexts q given f × TellsCombineFault f reply
     × (text ≡ text_after was f))
 
 -- ---- the summary of the whole
@@ -218,22 +204,22 @@ pub record IsWholeSummary (given : Texts) (text : List ℕ) : Type 0 where
 -- memory ran out; or one of the texts is none; or they are refused as summaries of parts
 abbrev pub RefusesSummaryTexts : Texts → CombineFault → Type 0
 RefusesSummaryTexts given f = (f ≡ fault.OutOfMemory)
-    ⊎ (((i : ℕ) × (f ≡ fault.NotAnAnswer i) × IsNoText given.bytes (summary_lengths given) i)
+    ⊎ (((i : ℕ) × (f ≡ fault.NotAnAnswer i) × IsNoPartText given.bytes (summary_lengths given) i)
     ⊎ RefusesSummaries (summaries_of given) f)
 
 -- the text is the summary of the whole; or the fault is told of
 abbrev pub AnswersSummary : Texts → List ℕ → List ℕ → CombineReply → Type 0
-AnswersSummary given was text reply = (TellsStatus 0 reply × IsWholeSummary given text)
-    ⊎ ((f : CombineFault) × RefusesSummaryTexts given f × TellsFault f reply
+AnswersSummary given was text reply = (TellsCombineStatus 0 reply × IsWholeSummary given text)
+    ⊎ ((f : CombineFault) × RefusesSummaryTexts given f × TellsCombineFault f reply
     × (text ≡ text_after was f))
 
 -- ---- what a number stands for
 
 -- the text is the answer to the question of this number, or the summary; or the number stands for
 -- neither, and the text is that of before
-abbrev pub AnswersNumber : ℕ → Texts → List ℕ → List ℕ → CombineReply → Type 0
-AnswersNumber number given was text reply =
-    (TellsStatus 4 reply × (IsNoQuestion number × (number ≢ summary_number)) × (text ≡ was))
+abbrev pub AnswersQuestionOrSummary : ℕ → Texts → List ℕ → List ℕ → CombineReply → Type 0
+AnswersQuestionOrSummary number given was text reply =
+    (TellsCombineStatus 4 reply × (IsNoQuestion number × (number ≢ summary_number)) × (text ≡ was))
     ⊎ (((q : Query) × (number ≡ question_number q) × AnswersWhole q given was text reply)
     ⊎ ((number ≡ summary_number) × AnswersSummary given was text reply))
 
@@ -242,7 +228,7 @@ pub record Combined (number : ℕ) (given : Texts) (held kept : Held) (reply : C
     : Type 0 where
   pub site : kept.site ≡ held.site
   pub length_is : reply.length ≡ length kept.text
-  pub told : AnswersNumber number given held.text kept.text reply
+  pub told : AnswersQuestionOrSummary number given held.text kept.text reply
   pub taken : (q : Query) → number ≡ question_number q
       → WantsMemoryAlone q given (IsDoneOrWant reply.status)
   pub summary_taken : number ≡ summary_number

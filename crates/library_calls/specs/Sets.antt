@@ -5,9 +5,9 @@ use Rattle.attributes.specs.Event.{EventValue, text as event_text}
 use Rattle.coverage.specs.Digests.{Digests}
 use Rattle.coverage.specs.Summary.{Sources, entries_of, version_of}
 use Rattle.coverage.specs.SummaryText.{summary_text}
-use Rattle.file_reports.specs.Numbers.{fault_number}
-use Rattle.file_reports.specs.Reports.{IsRefusal, SpellAll}
-use Rattle.file_reports.specs.declared.refusal.Refused.{Refused}
+use Rattle.event_files.specs.Numbers.{fault_number}
+use Rattle.event_files.specs.Files.{IsRefusal, SpellAll}
+use Rattle.event_files.specs.declared.refusal.Refused.{Refused}
 use Rattle.inbox.specs.Sets.{set_of}
 use Rattle.sha2.specs.Sha256.{sha256}
 use Rattle.lag.specs.Blocks.{differing}
@@ -16,7 +16,7 @@ use Rattle.site.specs.Delta.{delta}
 use Rattle.site.specs.Key.{with_key}
 use Rattle.site.specs.Page.{page}
 use Rattle.views.specs.Line.{event_lines}
-use Rattle.library_calls.specs.Calls.{Answers, IsPageLine, IsPeer, IsRefusedPeer, IsWant, KeepsText}
+use Rattle.library_calls.specs.Calls.{AnswersCall, IsPageLine, IsPeer, IsRefusedPeer, IsWant, KeepsReplyText}
 use Rattle.library_calls.specs.declared.calls.Reply.{Reply}
 use Rattle.library_calls.specs.declared.held.Held.{Held}
 use Rattle.library_calls.specs.declared.set_calls.Lag.{Lag}
@@ -27,7 +27,7 @@ use Rattle.library_calls.specs.declared.set_calls.Name.{Name}
 -- the events that came as the (after+1)st and on, at most 100, as a page
 abbrev pub Arrived : ℕ → Held → Held → Reply → Type 0
 Arrived after held kept reply =
-    Answers (IsPageLine (page held.site after 100)) IsWant held kept reply
+    AnswersCall (IsPageLine (page held.site after 100)) IsWant held kept reply
 
 -- ---- events by their source and id
 
@@ -52,14 +52,14 @@ WantsFound source id E status = IsWant status × (with_key source id E ≢ [])
 
 -- what `jumbetai_site_get` leaves and replies
 abbrev pub Found : List ℕ → List ℕ → Held → Held → Reply → Type 0
-Found source id held kept reply = Answers (IsFound source id (set_of held.site))
+Found source id held kept reply = AnswersCall (IsFound source id (set_of held.site))
     (WantsFound source id (set_of held.site)) held kept reply
 
 -- ---- a text let go
 
 -- the text is empty
 abbrev pub Released : Held → Held → Reply → Type 0
-Released held kept reply = KeepsText [] 0 held kept reply
+Released held kept reply = KeepsReplyText [] 0 held kept reply
 
 -- ---- copies
 
@@ -129,7 +129,7 @@ IsBounded size events = size ≢ 0 → (pages : ℕ) → pages * 100 < length ev
 
 -- these are the next events from a place of a list on, page by page: as many as are asked for, or
 -- those up to the page with which they have so many bytes
-pub record IsPart (lacking : List EventValue) (from most size : ℕ) (events : List EventValue)
+pub record IsSizedPart (lacking : List EventValue) (from most size : ℕ) (events : List EventValue)
     : Type 0 where
   pub next : events ≡ page lacking from (length events)
   pub few : length events ≤ part_limit most
@@ -141,13 +141,13 @@ pub record IsPart (lacking : List EventValue) (from most size : ℕ) (events : L
 -- the text is the part from this place on of what the peer of the bytes lacks of the set E
 abbrev pub LacksPart : List ℕ → ℕ → ℕ → ℕ → List EventValue → List ℕ → ℕ → Type 0
 LacksPart bytes from most size E text listed = (s : Sources) × IsPeer bytes s
-    × ((events : List EventValue) × IsPart (delta E s) from most size events
+    × ((events : List EventValue) × IsSizedPart (delta E s) from most size events
     × IsPageLine events text listed)
 
 -- what `jumbetai_site_part` leaves and replies
 abbrev pub PartLacked : List ℕ → ℕ → ℕ → ℕ → Held → Held → Reply → Type 0
 PartLacked bytes from most size held kept reply =
-    Answers (LacksPart bytes from most size (set_of held.site)) (IsRefusedPeer bytes)
+    AnswersCall (LacksPart bytes from most size (set_of held.site)) (IsRefusedPeer bytes)
     held kept reply
 
 -- ---- bytes tested

@@ -2,16 +2,16 @@
 
 ghost use Rattle.std.specs.Prelude.{◌≡◌, ◌≢◌, [], ◌∷◌, codes, drop, length, take, min, IfErr, IfNone, IfOk, IfSome, IsOk};
 ghost use Rattle.fault_lines.specs.Lines.{IsFaultText};
-ghost use Rattle.file_reports.specs.Reports.{IsRefusal, SpellAll};
+ghost use Rattle.event_files.specs.Files.{IsRefusal, SpellAll};
 ghost use Rattle.inbox.specs.Sets.{set_of};
-ghost use Rattle.library_calls.specs.Calls.{AnswersAt, Asked, Checked, HasRead, IsDoneOrWant, IsKept, IsLeft, IsPageLine, IsPeer, IsRefusedPeer, IsSummaryLine, IsUnanswered, Lacked, LacksAt, Paged, Summed, TellsText, Took, TookBatch, TookNone, Viewed, WithoutLineEnd, batch_line, piece_of, question_number, summary_status};
+ghost use Rattle.library_calls.specs.Calls.{AnswersAt, Asked, Checked, HasReadPiece, IsDoneOrWant, IsReplyKept, IsLeft, IsPageLine, IsPeer, IsRefusedPeer, IsSummaryLine, IsUnanswered, Lacked, LacksPageAt, Paged, Summed, TellsText, Took, TookBatch, TookNone, Viewed, WithoutLineEnd, batch_line, piece_of, question_number, summary_status};
 
 use crate::held::Held;
 use attributes::{Batch, Octets, Text};
 use coverage::{Summary, SummaryFault};
+use event_files::{Refused, SequentialReader, events_of};
 use event_json::write_sequenced;
 use fault_lines::fault_lines;
-use file_reports::{Refused, SequentialReader, events_of};
 use site::Site;
 use std::alloc::{AllocError, Global};
 use std::hash::RandomState;
@@ -113,7 +113,7 @@ fn settle(site: &mut Site, read: Result<Batch, Refused>, reply: &mut Reply)
 
 /// Keeps the text that was made in place of the last one, or tells why there is none.
 pub(crate) fn keep(site: &Site, text: &mut Text, made: Result<Answered, u32>, reply: &mut Reply)
-    ensures ok { IfOk made (λ m. IsKept m.text m.listed text.new reply.new) }
+    ensures ok { IfOk made (λ m. IsReplyKept m.text m.listed text.new reply.new) }
     ensures err { IfErr made (λ status. IsLeft status text.old text.new reply.new) }
     ensures tells { TellsText site.now text.new reply.new }
 {
@@ -284,7 +284,7 @@ pub(crate) fn page_line(alloc: Global, page: Result<Batch, AllocError>) -> Resul
 /// The page of what a peer lacks, from a place on, or the status.
 fn delta_at(alloc: Global, site: &mut Site, peer: &[u8], from: u64) -> Result<Answered, u32>
     ensures same { site.new ≡ site.old }
-    ensures ok { IfOk result (λ m. LacksAt peer.now from (set_of site.old) m.text m.listed) }
+    ensures ok { IfOk result (λ m. LacksPageAt peer.now from (set_of site.old) m.text m.listed) }
     ensures err { IfErr result (IsRefusedPeer peer.now) }
 {
     let peer = peer_of(alloc, peer)?;
@@ -432,7 +432,7 @@ pub fn site_keep_views(mut held: Held, seed: &[u8], reply: &mut Reply) -> Held
 
 /// Copies a piece of the answer's text, counted from 0; a piece behind the text's end has no bytes.
 pub fn site_read(held: Held, piece: u32, out: &mut Piece) -> Held
-    ensures { HasRead piece held result out.old out.new }
+    ensures { HasReadPiece piece held result out.old out.new }
 {
     out.length = copied(held.text.as_str().as_bytes(), piece, &mut out.bytes);
     held

@@ -1,9 +1,9 @@
 //! What each call does to the site over a file that lies in the room.
 
 ghost use Rattle.std.specs.Prelude.{◌≡◌, ◌≢◌, ◌⊎◌, List, [], IfErr, IfOk, MatchOption, OnErr};
-ghost use Rattle.library_calls.specs.Files.{Answered, HasReadFile, IsCounted, IsOpenedFile, KeepsBatch, KeepsBytes, KeepsNone, LetsGo, OpenedFile, RefusesFile, RepliesKept, Told, TookFile, open_status, table_status};
+ghost use Rattle.library_calls.specs.Files.{Answered, HasReadFile, IsStatusOfOwed, IsOpenedFile, KeepsBatch, KeepsBytes, KeepsNone, LetsGo, OpenedFile, RefusesFile, RepliesKept, Told, TookFile, open_status, table_status};
 ghost use Rattle.library_calls.specs.FileSets.{ComparedFile, CopiedFile, FoundFile, NamedFile, PartLackedFile};
-ghost use Rattle.library_calls.specs.Offers.{HasAnswer, IsBehind, KeepsOffers, KeptOffers, Offered, Reads};
+ghost use Rattle.library_calls.specs.Offers.{HasAnswer, IsOfferedBehind, KeepsOffers, KeptOffers, Offered, ReadsBody};
 ghost use Rattle.library_calls.specs.declared.offers.Head.{Head};
 ghost use Rattle.attributes.specs.Event.{EventValue};
 ghost use Rattle.inbox.specs.Sets.{set_of};
@@ -23,7 +23,7 @@ use attributes::{Batch, List, Text};
 use durable_site::{
     DurableSite, FileSite, GivenFiles, OpenFault, Owed, TableFault, Unknown, close, open_files,
 };
-use file_reports::Refused;
+use event_files::Refused;
 use site::Site;
 use std::alloc::{AllocError, Global};
 
@@ -125,7 +125,7 @@ pub fn file_open(alloc: Global, given: GivenFiles, reply: &mut Reply) -> FileHel
 
 /// The status of events that are kept, by what is owed then.
 fn kept_status(owed: &Owed) -> u32
-    ensures { IsCounted result owed.now }
+    ensures { IsStatusOfOwed result owed.now }
 {
     if owed.is_empty() {
         return DONE;
@@ -188,7 +188,7 @@ fn settle_file(
 }
 
 /// Takes the events that the bytes spell; so many bytes the text has.
-fn take_bytes(
+fn take_events(
     durable: &mut FileSite<Unknown>,
     alloc: Global,
     bytes: &[u8],
@@ -212,7 +212,7 @@ pub fn file_take(mut held: FileHeld, bytes: &[u8], reply: &mut Reply) -> FileHel
         tell_nothing(NOT_OPEN, length, reply);
         return held;
     };
-    take_bytes(durable, held.alloc, bytes, length, reply);
+    take_events(durable, held.alloc, bytes, length, reply);
     held
 }
 
@@ -478,7 +478,7 @@ fn with_bytes(
     reply: &mut Reply,
 ) -> Result<Offers, AllocError>
     ensures ok { IfOk result (λ o. (head : Head) × (batch : List EventValue)
-        × Reads bytes.now head batch × IsBehind head batch offers o
+        × ReadsBody bytes.now head batch × IsOfferedBehind head batch offers o
         × (reply.new ≡ record { status = head.status; fresh = reply.old.fresh; repeated = reply.old.repeated; listed = head.count; events = reply.old.events; length = reply.old.length })) }
     ensures err { OnErr result (reply.new ≡ reply.old) }
 {

@@ -1,11 +1,11 @@
 //! Bodies of several callers that come in one transaction.
 
 ghost use Rattle.std.specs.Prelude.{◌≡◌, ◌++◌, [], ◌∷◌, IfOk};
-ghost use Rattle.library_calls.specs.Offers.{AnswerAt, IsBehind, Reads, no_offers};
+ghost use Rattle.library_calls.specs.Offers.{AnswerAt, IsOfferedBehind, ReadsBody, no_offers};
 
 use crate::calls::{DONE, Reply, batch_of};
 use attributes::{Batch, List};
-use file_reports::ReportFault;
+use event_files::ReportFault;
 use std::alloc::{AllocError, Global};
 
 /// What a body came to when it was offered.
@@ -41,7 +41,7 @@ const NO_BODY: u32 = 9;
 
 /// What a body comes to, and its events.
 pub(crate) fn body_of(alloc: Global, bytes: &[u8]) -> Result<Body, AllocError>
-    ensures { IfOk result (λ body. Reads bytes.now body.head body.batch) }
+    ensures { IfOk result (λ body. ReadsBody bytes.now body.head body.batch) }
 {
     match batch_of(alloc, bytes) {
         Ok(batch) => {
@@ -87,7 +87,7 @@ impl Offers {
 
     /// These, and a body behind them. At want of memory all are let go.
     pub(crate) fn with(mut self, body: Body) -> Result<Offers, AllocError>
-        ensures { IfOk result (λ o. IsBehind body.head body.batch self o) }
+        ensures { IfOk result (λ o. IsOfferedBehind body.head body.batch self o) }
     {
         let Body { head, batch } = body;
         self.heads.push(head)?;

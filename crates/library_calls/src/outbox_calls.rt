@@ -1,18 +1,19 @@
 //! What each call does to the outbox over a file that lies in the room.
 
-ghost use Rattle.std.specs.Prelude.{◌≡◌, ◌≢◌, ◌<◌, ◌≤◌, ◌↔◌, ◌⊎◌, suc, List, [], length, IfErr, IfNone, IfOk, IfSome, IsFalse, IsTrue};
+ghost use Rattle.std.specs.Prelude.{◌≡◌, ◌≢◌, ◌<◌, ◌↔◌, ◌⊎◌, suc, List, [], length, IfErr, IfNone, IfOk, IfSome, IsFalse, IsTrue};
 ghost use Rattle.sqlite.specs.Held.{state};
 ghost use Rattle.sqlite.specs.State.{HasCleanDisk};
 ghost use Rattle.attributes.specs.Event.{EventValue};
 ghost use Rattle.attributes.specs.Sequence.{max_sequence};
 ghost use Rattle.attributes.specs.declared.fault.Fault.TheVariants as time;
-ghost use Rattle.outbox.specs.Call.{CommandCall, CommandEffect, IsSame, LeavesAsBefore};
+ghost use Rattle.outbox.specs.Call.{CommandCall, CommandEffect, IsServiceReading, LeavesAsBefore};
 ghost use Rattle.outbox.specs.Row.{row_event};
-ghost use Rattle.outbox.specs.Shown.{IsAllowed};
+ghost use Rattle.outbox.specs.Shown.{IsAllowed, IsSameService};
 ghost use Rattle.outbox.specs.declared.fault.OutboxFault.TheVariants.{OutOfMemory, Store};
 ghost use Rattle.durable_site.specs.Files.{Closes};
 ghost use Rattle.library_calls.specs.Calls.{IsPageLine, IsWant};
-ghost use Rattle.library_calls.specs.Outboxes.{Carries, Commands, Finds, HasReadOutbox, IsAction, IsGiven, IsNextRows, IsTime, LetsGoOutbox, Names, NamesNone, OpenedOutbox, OrderedOutbox, Serves, ShownOutbox, ShowsRows, TellsService, WantsTime, action_number, event_line, outbox_status, source_of};
+ghost use Rattle.library_calls.specs.Outboxes.{Carries, Commands, FindsServiceOrWhy, HasReadOutbox, IsAction, IsGiven, IsNextRows, IsTimeInBytes, LetsGoOutbox, NamesCommand, NamesNone, OpenedOutbox, OrderedOutbox, Serves, ShownOutbox, ShowsRows, TellsService, WantsTime, action_number, event_line, outbox_status, source_if_made};
+ghost use Rattle.outbox.specs.Order.{IsOrder, IsShortTime};
 
 use crate::calls::{Answered, DONE, MAX_PAGE, OUT_OF_MEMORY, Piece, copied, page_line};
 use crate::file_calls::{NOT_OPEN, open_status};
@@ -120,7 +121,7 @@ fn tell_service<S: Alter>(service: &Service<S>, reply: &mut OutboxReply)
 
 /// The source of a service that is made where none is given.
 fn own_source(alloc: Global) -> Result<Text, AllocError>
-    ensures { IfOk result (λ text. text ≡ source_of 0 []) }
+    ensures { IfOk result (λ text. text ≡ source_if_made 0 []) }
 {
     Text::of(alloc, "/orders")
 }
@@ -149,7 +150,7 @@ fn named_source(alloc: Global, source: &[u8]) -> Result<Text, u32>
 
 /// The source of a service that is made, where the base may be one.
 fn source_given(alloc: Global, has_source: u32, source: &[u8], base: u64) -> Result<Text, u32>
-    ensures ok { IfOk result (λ text. (text ≡ source_of has_source source.now)
+    ensures ok { IfOk result (λ text. (text ≡ source_if_made has_source source.now)
         × IsAllowed text base) }
     ensures err { IfErr result (λ status. IsWant status
         ⊎ ((status ≡ 27) × (IsGiven has_source source.now base → ⊥))) }
@@ -197,7 +198,7 @@ fn service_of<S: Alter + Drop>(
     base: u64,
 ) -> Result<Service<S>, Unserved<S>>
     requires { IsAllowed source.now base }
-    ensures { Finds S.Store has_source source.now base (state S.Store conn) result }
+    ensures { FindsServiceOrWhy S.Store has_source source.now base (state S.Store conn) result }
 {
     let service = match Service::open(alloc, conn, source, base) {
         Ok(service) => service,
@@ -317,9 +318,9 @@ fn time_status(fault: Fault) -> u32
 
 /// The time that the bytes are, or the status.
 fn moment_of(alloc: Global, bytes: &[u8]) -> Result<Moment, u32>
-    ensures ok { IfOk result (λ at. (at ≡ bytes.now) × IsTime bytes.now) }
-    ensures err { IfErr result (λ status. (IsWant status × IsTime bytes.now)
-        ⊎ ((status ≡ 25) × (IsTime bytes.now → ⊥))) }
+    ensures ok { IfOk result (λ at. (at ≡ bytes.now) × IsTimeInBytes bytes.now) }
+    ensures err { IfErr result (λ status. (IsWant status × IsTimeInBytes bytes.now)
+        ⊎ ((status ≡ 25) × (IsTimeInBytes bytes.now → ⊥))) }
 {
     if bytes.len() > MAX_TIME {
         return Err(NO_TIME);
@@ -335,7 +336,7 @@ fn moment_of(alloc: Global, bytes: &[u8]) -> Result<Moment, u32>
 
 /// The command that the arguments name, or the status.
 fn command_of(alloc: Global, action: u32, order: u64, time: &[u8]) -> Result<OrderCommand, u32>
-    ensures ok { IfOk result (λ c. Names action order time.now
+    ensures ok { IfOk result (λ c. NamesCommand action order time.now
         (record { status = c.status; order = c.order; at = c.at })) }
     ensures err { IfErr result (λ status. WantsTime action order time.now status
         ⊎ NamesNone action order time.now status) }
@@ -359,8 +360,8 @@ fn command<S: Alter>(
     order: u64,
     at: &Moment,
 ) -> Result<Sequenced, OutboxFault>
-    requires order { (1 ≤ order) × (order ≤ max_sequence) }
-    requires short { length at.now ≤ 64 }
+    requires order { IsOrder order }
+    requires short { IsShortTime at.now }
     ensures call { CommandCall (record { status = status; order = order; at = at.now })
         service.old service.new result }
     ensures effect { HasCleanDisk (state S.Store service.new.conn) → CommandEffect
@@ -420,8 +421,8 @@ fn carry_out<S: Alter>(
     asked: &OrderCommand,
     reply: &mut OutboxReply,
 )
-    requires order { (1 ≤ asked.now.order) × (asked.now.order ≤ max_sequence) }
-    requires short { length asked.now.at ≤ 64 }
+    requires order { IsOrder asked.now.order }
+    requires short { IsShortTime asked.now.at }
     ensures did { Carries S.Store (record {
       status = asked.now.status;
       order = asked.now.order;
@@ -512,9 +513,8 @@ pub fn outbox_order(
 
 /// The line of the batch of the next rows after a number, or the status.
 fn rows_line<S: Alter>(service: &mut Service<S>, alloc: Global, after: u64) -> Result<Answered, u32>
-    ensures stays { (service.new.source ≡ service.old.source)
-        × (service.new.base ≡ service.old.base) × (service.new.last ≡ service.old.last) }
-    ensures same { IsSame (state S.Store service.old.conn) (state S.Store service.new.conn) }
+    ensures stays { IsSameService service.old service.new }
+    ensures same { IsServiceReading (state S.Store service.old.conn) (state S.Store service.new.conn) }
     ensures crash { LeavesAsBefore (state S.Store service.old.conn)
         (state S.Store service.new.conn) }
     ensures ok { IfOk result (λ m. (events : List EventValue) × IsPageLine events m.text m.listed

@@ -3,14 +3,14 @@
 
 ghost use Rattle.std.specs.Prelude.{◌≡◌, ◌≤◌, ℕ, List, Err, IfErr, IfOk, OnErr, OnOk, drop, if◌then◌else◌, length, map, sum, take};
 ghost use Rattle.attributes.specs.Event.{EventValue};
-ghost use Rattle.parts.specs.Part.{IsCount};
+ghost use Rattle.parts.specs.Part.{IsCountOfParts};
 ghost use Rattle.parts.specs.Told.{IsHeld};
 ghost use Rattle.parts.specs.Whole.{AreApartIn, ArePartsOf, RefusesParts};
 ghost use Rattle.parts.specs.declared.fault.CombineFault.TheVariants as fault;
 ghost use Rattle.views.specs.Question.{IsAnswer};
 ghost use Rattle.views.specs.declared.query.Query.{Query};
 ghost use Rattle.library_calls.specs.Calls.{IsDoneOrWant, question_number};
-ghost use Rattle.library_calls.specs.Parts.{AnswersNumber, AnswersSummary, AnswersWhole, Combined, IsNoText, IsSplit, IsUnsplit, IsWhole, IsWholeSummary, RefusesSummaryTexts, RefusesTexts, Split, SummariesWantMemoryAlone, TellsFault, TellsPart, TellsStatus, WantsMemoryAlone, cut, has_covers, no_answer, no_text, part_lines, summary_number, text_after};
+ghost use Rattle.library_calls.specs.Parts.{AnswersQuestionOrSummary, AnswersSummary, AnswersWhole, Combined, IsNoPartText, IsSplit, IsUnsplit, IsWholeOfTexts, IsWholeSummary, RefusesSummaryTexts, RefusesTexts, Split, SummariesWantMemoryAlone, TellsCombineFault, TellsSourcePart, TellsCombineStatus, WantsMemoryAlone, cut, has_covers, no_answer, no_text, part_lines, summary_number, text_after};
 ghost use Rattle.library_calls.specs.declared.part_calls.TextFault.TheVariants as text;
 
 use crate::calls::{
@@ -18,7 +18,9 @@ use crate::calls::{
 };
 use crate::held::Held;
 use attributes::{Batch, Text};
-use parts::{CombineFault, combine, combine_summaries, is_count, part_of, split};
+use parts::{
+    CombineFault, combine, combine_summaries, has_covers, is_count, no_answer, part_of, split,
+};
 use std::alloc::{AllocError, AllocFailed, Global};
 use views::Query;
 
@@ -74,7 +76,7 @@ impl<T: Drop> From<AllocFailed<T>> for TextFault {
 
     ghost from_gives = { λ _ fault. fault ≡ OutOfMemory };
 
-    /// Want of memory.
+    /// Want of memory for a text of parts.
     fn from(_refused: AllocFailed<T>) -> TextFault {
         TextFault::OutOfMemory
     }
@@ -82,7 +84,7 @@ impl<T: Drop> From<AllocFailed<T>> for TextFault {
 
 /// Tells the part that a source falls to, of so many, or answers the status; it takes no memory.
 pub fn source_part(source: &[u8], count: u64, place: &mut u64) -> u32
-    ensures { TellsPart source.now count result place.new }
+    ensures { TellsSourcePart source.now count result place.new }
 {
     *place = 0;
     if !is_count(count) {
@@ -94,7 +96,7 @@ pub fn source_part(source: &[u8], count: u64, place: &mut u64) -> u32
 
 /// A line for each of so many parts, the batch of its events.
 fn part_lines(alloc: Global, events: Batch, count: u64) -> Result<Text, AllocError>
-    requires { IsCount count }
+    requires { IsCountOfParts count }
     ensures { IfOk result (λ text. text ≡ part_lines count events) }
 {
     let batches = split(alloc, events, count)?;
@@ -140,7 +142,7 @@ fn texts_in<'a>(alloc: Global, bytes: &'a [u8], lengths: &[u64]) -> Result<Vec<&
     ensures ok { IfOk result (λ texts. map (λ t. t.now) texts.items ≡ cut bytes.now lengths.now) }
     ensures fit { IfOk result (λ texts. sum lengths.now ≤ length bytes.now) }
     ensures err { IfErr result (λ f. (i : ℕ) → f ≡ text.NoText i
-        → IsNoText bytes.now lengths.now i) }
+        → IsNoPartText bytes.now lengths.now i) }
 {
     let mut texts = Vec::new(alloc);
     let mut rest = bytes;
@@ -157,16 +159,6 @@ fn texts_in<'a>(alloc: Global, bytes: &'a [u8], lengths: &[u64]) -> Result<Vec<&
         rest = behind;
     }
     Ok(texts)
-}
-
-/// Whether the covers of the parts stand beside their answers to the question.
-fn has_covers(query: Query) -> bool
-    ensures { result ≡ has_covers query }
-{
-    match query {
-        Query::Cover | Query::Shown => false,
-        Query::Conflicts | Query::Latest | Query::Kinds | Query::Days | Query::Gaps => true,
-    }
 }
 
 /// At most so many of the lengths.
@@ -188,16 +180,6 @@ fn lengths_of<'a>(query: Query, answers: usize, lengths: &'a [u64]) -> &'a [u64]
         return lengths;
     }
     first_lengths(answers, lengths)
-}
-
-/// The fault of an answer that is none to the question.
-fn no_answer(query: Query, part: u64) -> CombineFault
-    ensures { result ≡ no_answer query part }
-{
-    match query {
-        Query::Cover => CombineFault::NotACover { part },
-        _ => CombineFault::NotAnAnswer { part },
-    }
 }
 
 /// The fault of a text that is none, where so many are answers.
@@ -246,7 +228,7 @@ fn whole_of(
     bytes: &[u8],
     lengths: &[u64],
 ) -> Result<Text, CombineFault>
-    ensures whole { IfOk result (IsWhole query
+    ensures whole { IfOk result (IsWholeOfTexts query
         (record { answers = answers; bytes = bytes.now; lengths = lengths.now })) }
     ensures refused { IfErr result (RefusesTexts query
         (record { answers = answers; bytes = bytes.now; lengths = lengths.now })) }
@@ -298,7 +280,7 @@ fn tell(status: u32, first: u64, second: u64, reply: &mut CombineReply)
 
 /// Tells of a fault, and keeps the source that stands in two parts in place of the text.
 fn tell_fault(fault: CombineFault, text: &mut Text, reply: &mut CombineReply)
-    ensures tells { TellsFault fault reply.new }
+    ensures tells { TellsCombineFault fault reply.new }
     ensures text { text.new ≡ text_after text.old fault }
 {
     match fault {
@@ -320,8 +302,8 @@ fn tell_fault(fault: CombineFault, text: &mut Text, reply: &mut CombineReply)
 
 /// Keeps the answer of the whole in place of the text, or tells why there is none.
 fn tell_whole(made: Result<Text, CombineFault>, text: &mut Text, reply: &mut CombineReply)
-    ensures ok { IfOk made (λ whole. TellsStatus 0 reply.new × (text.new ≡ whole)) }
-    ensures err { IfErr made (λ f. TellsFault f reply.new × (text.new ≡ text_after text.old f)) }
+    ensures ok { IfOk made (λ whole. TellsCombineStatus 0 reply.new × (text.new ≡ whole)) }
+    ensures err { IfErr made (λ f. TellsCombineFault f reply.new × (text.new ≡ text_after text.old f)) }
 {
     match made {
         Ok(whole) => {
@@ -384,7 +366,7 @@ fn answer_number(
     lengths: &[u64],
     reply: &mut CombineReply,
 )
-    ensures answers { AnswersNumber number
+    ensures answers { AnswersQuestionOrSummary number
         (record { answers = answers; bytes = bytes.now; lengths = lengths.now })
         text.old text.new reply.new }
     ensures taken { (q : Query) → number ≡ question_number q → WantsMemoryAlone q

@@ -3,12 +3,12 @@
 ghost use Rattle.std.specs.Prelude.{◌≡◌, ◌≢◌, ◌≤◌, ◌⊎◌, ◌↔◌, ◌++◌, [], ◌∷◌, IfErr, IfOk, IsTrue, OnErr, length, min};
 ghost use Rattle.coverage.specs.Digests.{Digests};
 ghost use Rattle.coverage.specs.Summary.{Sources};
-ghost use Rattle.file_reports.specs.Reports.{IsRefusal, SpellAll};
+ghost use Rattle.event_files.specs.Files.{IsRefusal, SpellAll};
 ghost use Rattle.inbox.specs.Sets.{set_of};
 ghost use Rattle.site.specs.Delta.{delta};
 ghost use Rattle.site.specs.Key.{with_key};
 ghost use Rattle.library_calls.specs.Calls.{IsPeer, IsRefusedPeer};
-ghost use Rattle.library_calls.specs.Sets.{Arrived, Compared, Copied, Found, IsApart, IsFound, IsNamed, IsLag, IsNameOf, IsPart, LacksPart, Named, PartLacked, Released, TellsLag, TellsName, Tested, WantsFound, bytes_of, part_limit};
+ghost use Rattle.library_calls.specs.Sets.{Arrived, Compared, Copied, Found, IsApart, IsFound, IsNamed, IsLag, IsNameOf, IsSizedPart, LacksPart, Named, PartLacked, Released, TellsLag, TellsName, Tested, WantsFound, bytes_of, part_limit};
 
 use crate::calls::{
     Answered, DONE, MAX_PAGE, OUT_OF_MEMORY, Reply, batch_of, keep, page_line, peer_of,
@@ -224,7 +224,7 @@ fn part_of(
 ) -> Result<Batch, AllocError>
     ensures same { site.new ≡ site.old }
     ensures part { IfOk result
-        (λ events. IsPart (delta (set_of site.old) peer.now) from most size events) }
+        (λ events. IsSizedPart (delta (set_of site.old) peer.now) from most size events) }
 {
     let limit = part_limit(most);
     let mut part = Batch::empty(alloc);

@@ -10,11 +10,11 @@ use Rattle.sqlite_trees.specs.Tree.{Trees}
 use Rattle.attributes.specs.Event.{EventValue}
 use Rattle.inbox.specs.KeyOrder.{key_cmp}
 use Rattle.inbox.specs.Ordered.{append_new}
-use Rattle.inbox_table.specs.Beside.{KeepsService}
+use Rattle.inbox_table.specs.Beside.{KeepsServiceBeside}
 use Rattle.inbox_table.specs.Calls.{AreFreshEach, MayTake, joined}
 use Rattle.line_intake.specs.Acknowledged.{AreTold, TellsAll, TellsSome, TellsUntil}
-use Rattle.line_intake.specs.Answers.{answers}
-use Rattle.line_intake.specs.Follow.{AreKept, AreTurns, IsFollowed, IsKept, IsTurn, KeepsTurns, LeavesTurns, Place, StopsStream, StopsTurn, Turn, faults_of}
+use Rattle.line_intake.specs.Answers.{answers_text}
+use Rattle.line_intake.specs.Follow.{AreKept, AreTurns, IsFollowed, AreLinesKept, IsTurn, KeepsTurns, LeavesTurns, StreamPlace, StopsStream, StopsTurn, Turn, faults_of}
 use Rattle.line_intake.specs.Judged.{AreJudged, IsGathered, faults_in}
 use Rattle.line_intake.specs.declared.answer.Told.{Told}
 use Rattle.line_intake.specs.declared.line.LineFault.{LineFault}
@@ -23,7 +23,7 @@ use Rattle.line_intake.specs.declared.step.FollowFault.TheVariants.{Input, Table
 use Rattle.line_intake.proofs.ToldLemmas.{told_more, told_none}
 use Rattle.line_intake.proofs.WrittenLemmas.{Appends-kept, Wrote-behind}
 
-turns_more : (a b c : Place) (turns : List Turn) (t : Turn) → AreTurns a turns b → IsTurn b t c → AreTurns a (turns ++ t ∷ []) c
+turns_more : (a b c : StreamPlace) (turns : List Turn) (t : Turn) → AreTurns a turns b → IsTurn b t c → AreTurns a (turns ++ t ∷ []) c
 turns_more a b c [] t same it = (c, subst (λ p. IsTurn p t c) (sym same) it, refl)
 turns_more a b c (u ∷ turns) t (mid, first, later) it = (mid, first, turns_more mid b c turns t later it)
 
@@ -37,10 +37,10 @@ prepend_none [] (Some x) e = refl
 prepend_none (b ∷ bs) known e = absurd (cc)
 
 -- what is as it was has its service
-keeps_none : (db : Database) → KeepsService db db
+keeps_none : (db : Database) → KeepsServiceBeside db db
 keeps_none db = record { schema = refl; service = λ l has is. record { service = refl; orders = refl; outbox = refl } }
 
-pub keeps_on : (old mid new : Database) → KeepsService old mid → KeepsService mid new → KeepsService old new
+pub keeps_on : (old mid new : Database) → KeepsServiceBeside old mid → KeepsServiceBeside mid new → KeepsServiceBeside old new
 keeps_on old mid new first then = record {
   schema = then.schema ∙ first.schema;
   service = λ l has is.
@@ -79,11 +79,11 @@ leaves_turn [] old mid db trees Took still took = leaves_or old.is_open (old.may
 leaves_turn (t ∷ turns) old mid db trees Took still took = inr (took still)
 
 -- so far the stream has had these turns
-pub record IsFollowing (start : Place) (lines : ℕ) (left out : Option (List ℕ)) (old now : State) (faults : ℕ) : Type 0 where
+pub record IsFollowing (start : StreamPlace) (lines : ℕ) (left out : Option (List ℕ)) (old now : State) (faults : ℕ) : Type 0 where
   pub turns : List Turn
   pub are : AreTurns start turns (record { lines = lines; left = left; out = out })
   pub kept : HasCleanDisk now → KeepsTurns turns old.now now.now
-  pub beside : HasCleanDisk now → KeepsService old.now now.now
+  pub beside : HasCleanDisk now → KeepsServiceBeside old.now now.now
   pub faulty : faults ≡ faults_of turns
   pub few : faults ≤ lines
   pub clean : HasCleanDisk now → HasCleanDisk old
@@ -138,8 +138,8 @@ few_judged before ((x ∷ xs) ∷ lines) (t ∷ tells) (M ∷ lists) so_far =
 pub few_gathered : (before now : ℕ) (a b : Option (List ℕ)) (tells : List Told) (lists : List (List EventValue)) → IsGathered before now a b tells lists → before + faults_in tells ≤ now
 few_gathered before now a b tells lists g = (let few = few_judged before g.lines tells lists g.judged in omega (arith, few, g.count))
 
-pub following_more : (start : Place) (lines next : ℕ) (left left' out out' : Option (List ℕ)) (old mid now : State) (faults : ℕ) (tells : List Told) (lists : List (List EventValue)) → IsFollowing start lines left out old mid faults → IsGathered lines next left left' tells lists
-    → ((each : List ℕ) × (length each ≡ length lists) × Appends out out' (answers tells lists each) × (HasCleanDisk now → IsKept lists each mid.now now)) → (HasCleanDisk now → HasCleanDisk mid) → IsFollowing start next left' out' old now (faults + faults_in tells)
+pub following_more : (start : StreamPlace) (lines next : ℕ) (left left' out out' : Option (List ℕ)) (old mid now : State) (faults : ℕ) (tells : List Told) (lists : List (List EventValue)) → IsFollowing start lines left out old mid faults → IsGathered lines next left left' tells lists
+    → ((each : List ℕ) × (length each ≡ length lists) × Appends out out' (answers_text tells lists each) × (HasCleanDisk now → AreLinesKept lists each mid.now now)) → (HasCleanDisk now → HasCleanDisk mid) → IsFollowing start next left' out' old now (faults + faults_in tells)
 following_more start lines next left left' out out' old mid now faults tells lists f g (each, even, grown, kept) cleaner =
     let t : Turn = record { tells = tells; lists = lists; each = each } in
     let told = told_more start.left left left' lines next f.tells tells f.text lists each f.told f.count g even in
@@ -157,14 +157,14 @@ following_more start lines next left left' out out' old mid now faults tells lis
       leaves = λ clean trees left. leaves_more f.turns t (Leaves old) now.now trees ((kept clean).settled (kept clean).stays_open trees left);
       still = λ clean. open_more f.turns t old.is_open now.is_open (kept clean).stays_open;
       tells = f.tells ++ tells;
-      text = f.text ++ answers tells lists each;
+      text = f.text ++ answers_text tells lists each;
       told = told.0;
       count = told.1;
-      written = Appends-trans start.out out out' f.text (answers tells lists each) f.written grown;
+      written = Appends-trans start.out out out' f.text (answers_text tells lists each) f.written grown;
       told_faulty = (let e : faults + faults_in tells ≡ faults_in (f.tells ++ tells) = omega (arith, f.told_faulty, sum_by-append (λ (t : Told). one_if (is_some t.fault)) f.tells tells) in e);
     }
 
-pub following_done : (start : Place) (lines : ℕ) (left out : Option (List ℕ)) (old now : State) (faults : ℕ) → IsFollowing start lines left out old now faults → IsAtEnd left → IsFollowed start out faults (λ turns. HasCleanDisk now → KeepsTurns turns old.now now.now)
+pub following_done : (start : StreamPlace) (lines : ℕ) (left out : Option (List ℕ)) (old now : State) (faults : ℕ) → IsFollowing start lines left out old now faults → IsAtEnd left → IsFollowed start out faults (λ turns. HasCleanDisk now → KeepsTurns turns old.now now.now)
 following_done start lines left out old now faults f over = record {
   turns = f.turns;
   last = record { lines = lines; left = left; out = out };
@@ -176,10 +176,10 @@ following_done start lines left out old now faults f over = record {
 }
 
 -- the database that the turns left, as a fault behind them tells it
-abbrev Stops : Place → Option (List ℕ) → State → State → FollowFault → Type 0
+abbrev Stops : StreamPlace → Option (List ℕ) → State → State → FollowFault → Type 0
 Stops start out old now why = StopsStream start (Leaves old) out now why (λ turns mid. HasCleanDisk now → KeepsTurns turns old.now mid)
 
-pub following_unread : (start : Place) (lines : ℕ) (left out : Option (List ℕ)) (old now : State) (faults : ℕ) (why : LineFault) → IsFollowing start lines left out old now faults → Stops start out old now (Input why)
+pub following_unread : (start : StreamPlace) (lines : ℕ) (left out : Option (List ℕ)) (old now : State) (faults : ℕ) (why : LineFault) → IsFollowing start lines left out old now faults → Stops start out old now (Input why)
 following_unread start lines left out old now faults why f = record {
   turns = f.turns;
   last = record { lines = lines; left = left; out = out };
@@ -190,7 +190,7 @@ following_unread start lines left out old now faults why f = record {
 }
 
 -- what a crash leaves of a turn that stopped
-leaves_stop : (start : Place) (lines : ℕ) (left out : Option (List ℕ)) (old mid now : State) (faults : ℕ) (lists : List (List EventValue)) (f : IsFollowing start lines left out old mid faults) → (HasCleanDisk now → HasCleanDisk mid)
+leaves_stop : (start : StreamPlace) (lines : ℕ) (left out : Option (List ℕ)) (old mid now : State) (faults : ℕ) (lists : List (List EventValue)) (f : IsFollowing start lines left out old mid faults) → (HasCleanDisk now → HasCleanDisk mid)
     → (HasCleanDisk now → (trees : Trees) → now.may_leave trees → mid.may_leave trees ⊎ (IsTrue mid.is_open → MayTake (joined lists) mid.now trees))
     → HasCleanDisk now → (trees : Trees) → now.may_leave trees → LeavesTurns f.turns (Leaves old) mid.now trees ⊎ MayTake (joined lists) mid.now trees
 leaves_stop start lines left out old mid now faults lists f cleaner crash clean trees may = elim (crash clean trees may) [
@@ -198,7 +198,7 @@ leaves_stop start lines left out old mid now faults lists f cleaner crash clean 
   | inr took ↦ leaves_turn f.turns old mid mid.now trees (MayTake (joined lists) mid.now trees) (f.still (cleaner clean)) took
 ]
 
-pub following_stops : (start : Place) (lines next : ℕ) (left left' out out' : Option (List ℕ)) (old mid now : State) (faults : ℕ) (tells : List Told) (lists : List (List EventValue)) (why : FollowFault) → IsFollowing start lines left out old mid faults → IsGathered lines next left left' tells lists
+pub following_stops : (start : StreamPlace) (lines next : ℕ) (left left' out out' : Option (List ℕ)) (old mid now : State) (faults : ℕ) (tells : List Told) (lists : List (List EventValue)) (why : FollowFault) → IsFollowing start lines left out old mid faults → IsGathered lines next left left' tells lists
     → StopsTurn why tells lists mid.now now out out' → (HasCleanDisk now → HasCleanDisk mid)
     → (HasCleanDisk now → (trees : Trees) → now.may_leave trees → mid.may_leave trees ⊎ (IsTrue mid.is_open → MayTake (joined lists) mid.now trees)) → Stops start out' old now why
 following_stops start lines next left left' out out' old mid now faults tells lists (Input fault) f g stop cleaner crash = absurd stop
@@ -208,16 +208,16 @@ following_stops start lines next left left' out out' old mid now faults tells li
     record { turns = f.turns; last = record { lines = lines; left = left; out = out }; are = f.are; mid = mid.now; kept = λ clean. f.kept (cleaner clean); stop = (next, left', tells, lists, g, stop, leaves_stop start lines left out old mid now faults lists f cleaner crash) }
 
 -- a turn that stops leaves the service beside the table too
-stop_beside : (mid : Database) (now : State) (out out' : Option (List ℕ)) (tells : List Told) (lists : List (List EventValue)) (why : FollowFault) → StopsTurn why tells lists mid now out out' → HasCleanDisk now → IsTrue now.is_open → KeepsService mid now.now
+stop_beside : (mid : Database) (now : State) (out out' : Option (List ℕ)) (tells : List Told) (lists : List (List EventValue)) (why : FollowFault) → StopsTurn why tells lists mid now out out' → HasCleanDisk now → IsTrue now.is_open → KeepsServiceBeside mid now.now
 stop_beside mid now out out' tells lists (Input fault) stop clean still = absurd stop
 stop_beside mid now out out' tells lists (Table fault) (unwritten, of_store, left) clean still = elim (left clean still) [
-  | inl same ↦ subst (KeepsService mid) (sym same) (keeps_none mid)
+  | inl same ↦ subst (KeepsServiceBeside mid) (sym same) (keeps_none mid)
   | inr took ↦ took.2.beside
 ]
 stop_beside mid now out out' tells lists Unwritten (each, even, wrote, kept) clean still = (kept clean).beside
 
-pub following_beside : (start : Place) (lines : ℕ) (left out out' : Option (List ℕ)) (old mid now : State) (faults : ℕ) (tells : List Told) (lists : List (List EventValue)) (why : FollowFault) → IsFollowing start lines left out old mid faults
-    → StopsTurn why tells lists mid.now now out out' → (HasCleanDisk now → HasCleanDisk mid) → HasCleanDisk now → IsTrue now.is_open → KeepsService old.now now.now
+pub following_beside : (start : StreamPlace) (lines : ℕ) (left out out' : Option (List ℕ)) (old mid now : State) (faults : ℕ) (tells : List Told) (lists : List (List EventValue)) (why : FollowFault) → IsFollowing start lines left out old mid faults
+    → StopsTurn why tells lists mid.now now out out' → (HasCleanDisk now → HasCleanDisk mid) → HasCleanDisk now → IsTrue now.is_open → KeepsServiceBeside old.now now.now
 following_beside start lines left out out' old mid now faults tells lists why f stop cleaner clean still =
     keeps_on old.now mid.now now.now (f.beside (cleaner clean)) (stop_beside mid.now now out out' tells lists why stop clean still)
 
@@ -225,13 +225,13 @@ pub on_kept : {T E : Type 0} (r : Result T E) (P Q : Type 0) → (P → Q) → O
 on_kept (Ok x) P Q f p = f p
 on_kept (Err y) P Q f p = tt
 
-pub following_told : (start : Place) (lines : ℕ) (left out : Option (List ℕ)) (old now : State) (faults : ℕ) → IsFollowing start lines left out old now faults → IsAtEnd left → TellsAll start.left start.out out faults
+pub following_told : (start : StreamPlace) (lines : ℕ) (left out : Option (List ℕ)) (old now : State) (faults : ℕ) → IsFollowing start lines left out old now faults → IsAtEnd left → TellsAll start.left start.out out faults
 following_told start lines left out old now faults f over = record { left = left; over = over; tells = f.tells; text = f.text; told = f.told; written = f.written; faulty = f.told_faulty }
 
-pub following_some : (start : Place) (lines : ℕ) (left out : Option (List ℕ)) (old now : State) (faults : ℕ) → IsFollowing start lines left out old now faults → TellsSome start.left start.out out
+pub following_some : (start : StreamPlace) (lines : ℕ) (left out : Option (List ℕ)) (old now : State) (faults : ℕ) → IsFollowing start lines left out old now faults → TellsSome start.left start.out out
 following_some start lines left out old now faults f = record { left = left; tells = f.tells; text = f.text; told = f.told; written = f.written }
 
-pub following_until : (start : Place) (lines next : ℕ) (left left' out out' : Option (List ℕ)) (old mid now : State) (faults : ℕ) (tells : List Told) (lists : List (List EventValue)) (why : FollowFault) → IsFollowing start lines left out old mid faults → IsGathered lines next left left' tells lists
+pub following_until : (start : StreamPlace) (lines next : ℕ) (left left' out out' : Option (List ℕ)) (old mid now : State) (faults : ℕ) (tells : List Told) (lists : List (List EventValue)) (why : FollowFault) → IsFollowing start lines left out old mid faults → IsGathered lines next left left' tells lists
     → StopsTurn why tells lists mid.now now out out' → TellsUntil why start.left start.out out'
 following_until start lines next left left' out out' old mid now faults tells lists (Input fault) f g stop = absurd stop
 following_until start lines next left left' out out' old mid now faults tells lists (Table fault) f g stop =
@@ -241,8 +241,8 @@ following_until start lines next left left' out out' old mid now faults tells li
     record {
       left = left';
       tells = f.tells ++ tells;
-      text = f.text ++ answers tells lists each;
+      text = f.text ++ answers_text tells lists each;
       told = told.0;
       rest = rest;
-      written = Wrote-behind start.out out out' f.text (answers tells lists each) rest f.written wrote;
+      written = Wrote-behind start.out out out' f.text (answers_text tells lists each) rest f.written wrote;
     }

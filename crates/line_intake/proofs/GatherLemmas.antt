@@ -5,10 +5,10 @@ use Rattle.std.proofs.KnownBytes.{Consumes-nil, Consumes-trans}
 use Rattle.attributes.specs.Event.{EventValue}
 use Rattle.event_json.specs.Reading.{Reads, max_input}
 use Rattle.event_json.specs.declared.fault.ReadFault.TheVariants.{InputTooLarge}
-use Rattle.file_reports.specs.Reports.{AreSequenced, EachReads, IsFault, IsRefusal, SpellAll, joined}
-use Rattle.file_reports.specs.declared.refusal.ReportFault.{ReportFault}
-use Rattle.file_reports.specs.declared.refusal.ReportFault.TheVariants.{OutOfMemory, Read}
-use Rattle.file_reports.specs.declared.refusal.Refused.{Refused}
+use Rattle.event_files.specs.Files.{AreSequenced, EachReads, IsFault, IsRefusal, SpellAll, joined}
+use Rattle.event_files.specs.declared.refusal.ReportFault.{ReportFault}
+use Rattle.event_files.specs.declared.refusal.ReportFault.TheVariants.{OutOfMemory, Read}
+use Rattle.event_files.specs.declared.refusal.Refused.{Refused}
 use Rattle.line_intake.specs.Judged.{AreJudged, IsGathered, IsJudged, TakesLines}
 use Rattle.line_intake.specs.Lines.{TakesLine}
 use Rattle.line_intake.specs.declared.answer.Told.{Told}

@@ -2,7 +2,7 @@
 use Rattle.std.specs.Prelude.{◌≡◌, ℕ, List, length, Option}
 use Rattle.std.specs.Io.KnownBytes.{Appends, IsAtEnd}
 use Rattle.attributes.specs.Event.{EventValue}
-use Rattle.line_intake.specs.Answers.{answers}
+use Rattle.line_intake.specs.Answers.{answers_text}
 use Rattle.line_intake.specs.Judged.{AreJudged, TakesLines, faults_in}
 use Rattle.line_intake.specs.Written.{Wrote}
 use Rattle.line_intake.specs.declared.answer.Told.{Told}
@@ -18,7 +18,7 @@ pub record AreTold (old new : Option (List ℕ)) (tells : List Told) (text : Lis
   pub taken : TakesLines old lines new
   pub judged : AreJudged 0 lines tells lists
   pub one_each : length each ≡ length lists
-  pub are : text ≡ answers tells lists each
+  pub are : text ≡ answers_text tells lists each
 
 -- every line of the input, to its end, is acknowledged, and so many are at fault
 pub record TellsAll (old out out' : Option (List ℕ)) (faults : ℕ) : Type 0 where

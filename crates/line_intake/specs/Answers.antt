@@ -2,7 +2,7 @@
 use Rattle.std.specs.Prelude.{◌-◌, ℕ, List, [], ◌∷◌, ◌++◌, length, codes, Option, None, Some}
 use Rattle.std.specs.Fmt.{decimal}
 use Rattle.attributes.specs.Event.{EventValue}
-use Rattle.file_reports.specs.declared.refusal.ReportFault.{ReportFault}
+use Rattle.event_files.specs.declared.refusal.ReportFault.{ReportFault}
 use Rattle.line_intake.specs.Words.{words_of}
 use Rattle.line_intake.specs.declared.answer.Told.{Told}
 
@@ -26,7 +26,7 @@ abbrev pub answer_line : Told → ℕ → ℕ → List ℕ
 answer_line told events fresh = answer_of told.line told.fault events fresh
 
 -- lines with their events, one behind the other
-abbrev pub answers : List Told → List (List EventValue) → List ℕ → List ℕ
-answers (told ∷ tells) (L ∷ lists) (fresh ∷ each) =
-    answer_line told (length L) fresh ++ answers tells lists each
-answers _ _ _ = []
+abbrev pub answers_text : List Told → List (List EventValue) → List ℕ → List ℕ
+answers_text (told ∷ tells) (L ∷ lists) (fresh ∷ each) =
+    answer_line told (length L) fresh ++ answers_text tells lists each
+answers_text _ _ _ = []

@@ -7,12 +7,12 @@ use Rattle.sqlite_trees.specs.Tree.{Trees}
 use Rattle.attributes.specs.Event.{EventValue}
 use Rattle.inbox.specs.KeyOrder.{key_cmp}
 use Rattle.inbox.specs.Ordered.{append_new}
-use Rattle.inbox_table.specs.Beside.{KeepsService}
+use Rattle.inbox_table.specs.Beside.{KeepsServiceBeside}
 use Rattle.inbox_table.specs.Calls.{AreFreshEach, IsSettled, MayTake, Takes, joined}
 use Rattle.inbox_table.specs.Fault.{IsOfStore}
 use Rattle.inbox_table.specs.Rows.{IsInbox}
 use Rattle.inbox_table.specs.declared.fault.TableFault.TheVariants.{OutOfMemory}
-use Rattle.line_intake.specs.Answers.{answers}
+use Rattle.line_intake.specs.Answers.{answers_text}
 use Rattle.line_intake.specs.Judged.{IsGathered, faults_in}
 use Rattle.line_intake.specs.Written.{Wrote}
 use Rattle.line_intake.specs.declared.answer.Told.{Told}
@@ -21,11 +21,11 @@ use Rattle.line_intake.specs.declared.step.FollowFault.TheVariants as fault
 
 -- the events of lines are in, each behind what was there, so many of each line were not there by
 -- then, a crash leaves them, and a service beside the table has the rows that it had
-pub record IsKept (lists : List (List EventValue)) (each : List ℕ) (old : Database) (new : State)
+pub record AreLinesKept (lists : List (List EventValue)) (each : List ℕ) (old : Database) (new : State)
     : Type 0 where
   pub takes : Takes (joined lists) old new.now
   pub fresh : (events : List EventValue) → IsInbox old events → AreFreshEach events lists each
-  pub beside : KeepsService old new.now
+  pub beside : KeepsServiceBeside old new.now
   pub stays_open : IsTrue new.is_open
   pub settled : IsSettled new
 
@@ -33,18 +33,18 @@ pub record IsKept (lists : List (List EventValue)) (each : List ℕ) (old : Data
 
 -- why a turn stops, and what it leaves. The table refused it, for want of memory or by another
 -- refusal of the store: nothing was written, and the table is as it was, or, where memory for the
--- answers is wanted, has the events. Or a write failed: the events are in, and a front of the answers
+-- answers_text is wanted, has the events. Or a write failed: the events are in, and a front of the answers_text
 -- was written
 abbrev pub StopsTurn : FollowFault → List Told → List (List EventValue) → Database → State
     → Option (List ℕ) → Option (List ℕ) → Type 0
 StopsTurn (fault.Input why) tells lists old new out out' = ⊥
 StopsTurn (fault.Table why) tells lists old new out out' = Keeps out out' × IsOfStore why
     × (HasCleanDisk new → IsTrue new.is_open → (new.now ≡ old)
-    ⊎ ((why ≡ OutOfMemory) × (each : List ℕ) × IsKept lists each old new))
+    ⊎ ((why ≡ OutOfMemory) × (each : List ℕ) × AreLinesKept lists each old new))
 StopsTurn fault.Unwritten tells lists old new out out' = (each : List ℕ)
     × (length each ≡ length lists)
-    × ((rest : List ℕ) × Wrote out out' (answers tells lists each) rest)
-    × (HasCleanDisk new → IsKept lists each old new)
+    × ((rest : List ℕ) × Wrote out out' (answers_text tells lists each) rest)
+    × (HasCleanDisk new → AreLinesKept lists each old new)
 
 -- ---- a stream, turn by turn
 
@@ -55,21 +55,21 @@ pub record Turn : Type 0 where
   pub each : List ℕ
 
 -- where a stream stands: how many lines it has had, what is left of its input, and what was written
-pub record Place : Type 0 where
+pub record StreamPlace : Type 0 where
   pub lines : ℕ
   pub left : Option (List ℕ)
   pub out : Option (List ℕ)
 
--- in a turn lines are taken from the input, and their answers are written, one for each
-pub record IsTurn (old : Place) (turn : Turn) (new : Place) : Type 0 where
+-- in a turn lines are taken from the input, and their answers_text are written, one for each
+pub record IsTurn (old : StreamPlace) (turn : Turn) (new : StreamPlace) : Type 0 where
   pub lines : IsGathered old.lines new.lines old.left new.left turn.tells turn.lists
   pub one_each : length turn.each ≡ length turn.lists
-  pub answered : Appends old.out new.out (answers turn.tells turn.lists turn.each)
+  pub answered : Appends old.out new.out (answers_text turn.tells turn.lists turn.each)
 
 -- turns, one after the other
-abbrev pub AreTurns : Place → List Turn → Place → Type 0
+abbrev pub AreTurns : StreamPlace → List Turn → StreamPlace → Type 0
 AreTurns old [] new = old ≡ new
-AreTurns old (turn ∷ turns) new = (mid : Place) × IsTurn old turn mid × AreTurns mid turns new
+AreTurns old (turn ∷ turns) new = (mid : StreamPlace) × IsTurn old turn mid × AreTurns mid turns new
 
 -- turns kept these events behind those that were held: of each line so many were new
 abbrev pub AreKept : List EventValue → List Turn → List EventValue → Type 0
@@ -88,10 +88,10 @@ faults_of turns = sum_by (λ t. faults_in t.tells) turns
 
 -- the stream came to the end of its input: each turn was answered, so many lines were at fault, and
 -- the turns are kept as K says
-pub record IsFollowed (start : Place) (out : Option (List ℕ)) (faults : ℕ) (K : List Turn → Type 0)
+pub record IsFollowed (start : StreamPlace) (out : Option (List ℕ)) (faults : ℕ) (K : List Turn → Type 0)
     : Type 0 where
   pub turns : List Turn
-  pub last : Place
+  pub last : StreamPlace
   pub are : AreTurns start turns last
   pub over : IsAtEnd last.left
   pub out_is : last.out ≡ out
@@ -107,7 +107,7 @@ LeavesTurns (turn ∷ turns) Was mid trees = trees ≡ mid.trees
 -- the input couldn't be read on: nothing more was written, the table is as it was then, and a crash
 -- leaves it so; or lines were read behind those of the turns, and their turn stopped: then a crash
 -- may leave their events too, all of them
-abbrev pub StopsBehind : FollowFault → Place → (Trees → Type 0) → Database → State
+abbrev pub StopsBehind : FollowFault → StreamPlace → (Trees → Type 0) → Database → State
     → Option (List ℕ) → Type 0
 StopsBehind (fault.Input why) last Leaves mid new out = (mid ≡ new.now) × (last.out ≡ out)
     × (HasCleanDisk new → (trees : Trees) → new.may_leave trees → Leaves trees)
@@ -121,10 +121,10 @@ StopsBehind why last Leaves mid new out = (lines : ℕ) × (left : Option (List 
 -- it stopped before that: each turn before was answered, the database that these turns left is as K
 -- says, and what came of the last lines that were read is told by the fault. Before the first turn a
 -- crash left what Was says
-pub record StopsStream (start : Place) (Was : Trees → Type 0) (out : Option (List ℕ)) (new : State)
+pub record StopsStream (start : StreamPlace) (Was : Trees → Type 0) (out : Option (List ℕ)) (new : State)
     (why : FollowFault) (K : List Turn → Database → Type 0) : Type 0 where
   pub turns : List Turn
-  pub last : Place
+  pub last : StreamPlace
   pub are : AreTurns start turns last
   pub mid : Database
   pub kept : K turns mid

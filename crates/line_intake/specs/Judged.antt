@@ -3,8 +3,8 @@ use Rattle.std.specs.Prelude.{◌≡◌, ℕ, suc, ◌+◌, List, [], ◌∷◌,
 use Rattle.std.specs.Io.KnownBytes.{Consumes}
 use Rattle.attributes.specs.Event.{EventValue}
 use Rattle.event_json.specs.Reading.{Reads}
-use Rattle.file_reports.specs.Reports.{AreSequenced, IsFault}
-use Rattle.file_reports.specs.declared.refusal.ReportFault.{ReportFault}
+use Rattle.event_files.specs.Files.{AreSequenced, IsFault}
+use Rattle.event_files.specs.declared.refusal.ReportFault.{ReportFault}
 use Rattle.line_intake.specs.Lines.{TakesLine}
 use Rattle.line_intake.specs.declared.answer.Told.{Told}
 

@@ -7,12 +7,12 @@ use Rattle.line_intake.specs.declared.line.Next.{Next}
 use Rattle.line_intake.specs.declared.line.Next.TheVariants as next
 
 -- there is no LF
-abbrev pub IsPlain : List ℕ → Type 0
-IsPlain bytes = AllByRecursion (λ b. b ≢ 10) bytes
+abbrev pub HasNoLineFeed : List ℕ → Type 0
+HasNoLineFeed bytes = AllByRecursion (λ b. b ≢ 10) bytes
 
 -- the input lost a line: these bytes and the LF behind them, or, at its end, these alone
 pub record TakesLine (old new : Option (List ℕ)) (line : List ℕ) : Type 0 where
-  pub plain : IsPlain line
+  pub plain : HasNoLineFeed line
   pub taken : Consumes old new (line ++ 10 ∷ [])
       ⊎ (Consumes old new line × IsAtEnd new × (line ≢ []))
 

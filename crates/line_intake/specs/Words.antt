@@ -4,32 +4,32 @@ use Rattle.std.specs.Fmt.{decimal}
 use Rattle.attributes.specs.declared.fault.Fault.{Fault}
 use Rattle.attributes.specs.declared.fault.Fault.TheVariants as fault
 use Rattle.event_json.specs.declared.fault.ReadFault.TheVariants as read
-use Rattle.file_reports.specs.declared.refusal.ReportFault.{ReportFault}
-use Rattle.file_reports.specs.declared.refusal.ReportFault.TheVariants as report
+use Rattle.event_files.specs.declared.refusal.ReportFault.{ReportFault}
+use Rattle.event_files.specs.declared.refusal.ReportFault.TheVariants as report
 
-abbrev pub fault_name : Fault → List ℕ
-fault_name fault.OutOfMemory = codes "OutOfMemory"
-fault_name fault.SpecVersion = codes "SpecVersion"
-fault_name fault.Id = codes "Id"
-fault_name fault.Source = codes "Source"
-fault_name fault.Kind = codes "Kind"
-fault_name fault.Subject = codes "Subject"
-fault_name fault.Time = codes "Time"
-fault_name fault.ContentType = codes "ContentType"
-fault_name fault.Schema = codes "Schema"
-fault_name fault.ExtensionName = codes "ExtensionName"
-fault_name fault.ExtensionValue = codes "ExtensionValue"
-fault_name fault.TwoData = codes "TwoData"
-fault_name fault.Base64 = codes "Base64"
-fault_name fault.DataNumber = codes "DataNumber"
-fault_name fault.TooDeep = codes "TooDeep"
-fault_name fault.TooLarge = codes "TooLarge"
-fault_name fault.NoSequence = codes "NoSequence"
-fault_name fault.BadSequence = codes "BadSequence"
+abbrev pub name_of_event_fault : Fault → List ℕ
+name_of_event_fault fault.OutOfMemory = codes "OutOfMemory"
+name_of_event_fault fault.SpecVersion = codes "SpecVersion"
+name_of_event_fault fault.Id = codes "Id"
+name_of_event_fault fault.Source = codes "Source"
+name_of_event_fault fault.Kind = codes "Kind"
+name_of_event_fault fault.Subject = codes "Subject"
+name_of_event_fault fault.Time = codes "Time"
+name_of_event_fault fault.ContentType = codes "ContentType"
+name_of_event_fault fault.Schema = codes "Schema"
+name_of_event_fault fault.ExtensionName = codes "ExtensionName"
+name_of_event_fault fault.ExtensionValue = codes "ExtensionValue"
+name_of_event_fault fault.TwoData = codes "TwoData"
+name_of_event_fault fault.Base64 = codes "Base64"
+name_of_event_fault fault.DataNumber = codes "DataNumber"
+name_of_event_fault fault.TooDeep = codes "TooDeep"
+name_of_event_fault fault.TooLarge = codes "TooLarge"
+name_of_event_fault fault.NoSequence = codes "NoSequence"
+name_of_event_fault fault.BadSequence = codes "BadSequence"
 
 -- `event I: NAME`
 abbrev pub event_words : ℕ → Fault → List ℕ
-event_words index why = codes "event " ++ decimal index ++ codes ": " ++ fault_name why
+event_words index why = codes "event " ++ decimal index ++ codes ": " ++ name_of_event_fault why
 
 -- what is said of bytes that spell no events with numbers
 abbrev pub words_of : ReportFault → List ℕ

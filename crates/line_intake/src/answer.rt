@@ -1,11 +1,11 @@
 //! The lines by which lines are acknowledged.
 
 ghost use Rattle.std.specs.Prelude.{◌≡◌, ◌-◌, length, IfOk, string_bytes};
-ghost use Rattle.line_intake.specs.Answers.{answer_line, answers, fault_line, kept_line};
+ghost use Rattle.line_intake.specs.Answers.{answer_line, answers_text, fault_line, kept_line};
 
 use crate::words::words_of;
 use attributes::{Batch, List, Text};
-use file_reports::ReportFault;
+use event_files::ReportFault;
 use std::alloc::{AllocError, Global};
 
 /// Which line is acknowledged, counted from 1, and why none of its events is taken, if so.
@@ -52,7 +52,7 @@ pub fn answers(
 ) -> Result<Text, AllocError>
     requires lists { length lists.now ≡ length tells.now }
     requires each { length each.now ≡ length tells.now }
-    ensures { IfOk result (λ text. text ≡ answers tells.now lists.now each.now) }
+    ensures { IfOk result (λ text. text ≡ answers_text tells.now lists.now each.now) }
 {
     let mut text = String::new(alloc);
     for i in 0..tells.len() {

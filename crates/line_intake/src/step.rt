@@ -7,8 +7,8 @@ ghost use Rattle.sqlite.specs.State.{HasCleanDisk, Survives};
 ghost use Rattle.inbox_table.specs.Calls.{MayTake, joined};
 ghost use Rattle.inbox_table.specs.Fault.{IsOfStore};
 ghost use Rattle.inbox_table.specs.declared.fault.TableFault.TheVariants.{OutOfMemory};
-ghost use Rattle.line_intake.specs.Answers.{answers};
-ghost use Rattle.line_intake.specs.Follow.{IsKept, StopsTurn};
+ghost use Rattle.line_intake.specs.Answers.{answers_text};
+ghost use Rattle.line_intake.specs.Follow.{AreLinesKept, StopsTurn};
 
 use crate::answer::answers;
 use crate::line::LineFault;
@@ -45,14 +45,14 @@ pub fn keep_lines<S: Alter>(
     requires { length gathered.now.tells ≡ length gathered.now.lists }
     ensures kept { IfOk result (λ text. (each : List ℕ)
         × (length each ≡ length gathered.now.lists)
-        × (text ≡ answers gathered.now.tells gathered.now.lists each)
-        × (HasCleanDisk (state S.Store table.new.conn) → IsKept gathered.now.lists each
+        × (text ≡ answers_text gathered.now.tells gathered.now.lists each)
+        × (HasCleanDisk (state S.Store table.new.conn) → AreLinesKept gathered.now.lists each
         (state S.Store table.old.conn).now (state S.Store table.new.conn))) }
     ensures fault { IfErr result IsOfStore }
     ensures left { HasCleanDisk (state S.Store table.new.conn)
         → IsTrue (state S.Store table.new.conn).is_open → IfErr result (λ f.
         ((state S.Store table.new.conn).now ≡ (state S.Store table.old.conn).now)
-        ⊎ ((f ≡ OutOfMemory) × (each : List ℕ) × IsKept gathered.now.lists each
+        ⊎ ((f ≡ OutOfMemory) × (each : List ℕ) × AreLinesKept gathered.now.lists each
         (state S.Store table.old.conn).now (state S.Store table.new.conn))) }
     ensures crash { Survives (state S.Store table.old.conn) (state S.Store table.new.conn)
         (λ trees. IsTrue (state S.Store table.old.conn).is_open
@@ -77,8 +77,8 @@ pub fn acknowledge<S: Alter, W: Write>(
     requires { length gathered.now.tells ≡ length gathered.now.lists }
     ensures kept { OnOk result ((each : List ℕ) × (length each ≡ length gathered.now.lists)
         × Appends (W.contents out.old) (W.contents out.new)
-        (answers gathered.now.tells gathered.now.lists each)
-        × (HasCleanDisk (state S.Store table.new.conn) → IsKept gathered.now.lists each
+        (answers_text gathered.now.tells gathered.now.lists each)
+        × (HasCleanDisk (state S.Store table.new.conn) → AreLinesKept gathered.now.lists each
         (state S.Store table.old.conn).now (state S.Store table.new.conn))) }
     ensures stops { IfErr result (λ f. StopsTurn f gathered.now.tells gathered.now.lists
         (state S.Store table.old.conn).now (state S.Store table.new.conn)

@@ -3,7 +3,7 @@
 ghost use Rattle.std.specs.Prelude.{IfErr, IfOk, IsTrue, OnOk};
 ghost use Rattle.sqlite.specs.Held.{state};
 ghost use Rattle.sqlite.specs.State.{HasCleanDisk};
-ghost use Rattle.inbox_table.specs.Beside.{KeepsService};
+ghost use Rattle.inbox_table.specs.Beside.{KeepsServiceBeside};
 ghost use Rattle.inbox_table.specs.Calls.{IsSettled};
 ghost use Rattle.line_intake.specs.Acknowledged.{TellsAll, TellsUntil};
 ghost use Rattle.line_intake.specs.Follow.{IsFollowed, KeepsTurns, StopsStream};
@@ -47,7 +47,7 @@ pub fn follow<S: Alter, R: Read, W: Write>(
         → HasCleanDisk (state S.Store table.old.conn) }
     ensures beside { HasCleanDisk (state S.Store table.new.conn)
         → IsTrue (state S.Store table.new.conn).is_open
-        → KeepsService (state S.Store table.old.conn).now (state S.Store table.new.conn).now }
+        → KeepsServiceBeside (state S.Store table.old.conn).now (state S.Store table.new.conn).now }
     ensures told { IfOk result
         (TellsAll (R.remaining input.old) (W.contents out.old) (W.contents out.new)) }
     ensures until { IfErr result (λ f.

@@ -8,8 +8,8 @@ ghost use Rattle.line_intake.specs.Lines.{IsNext};
 use crate::answer::Told;
 use crate::line::{LineFault, Next, Pending, next_line};
 use attributes::{Batch, List, Octets};
+use event_files::{ReportFault, SequentialReader, events_of};
 use event_json::ReadFault;
-use file_reports::{ReportFault, SequentialReader, events_of};
 use std::alloc::{AllocError, Global};
 use std::io::Read;
 

@@ -1,16 +1,16 @@
 //! The words of faults.
 
 ghost use Rattle.std.specs.Prelude.{◌≡◌, IfOk, string_bytes};
-ghost use Rattle.line_intake.specs.Words.{event_words, fault_name, words_of};
+ghost use Rattle.line_intake.specs.Words.{event_words, name_of_event_fault, words_of};
 
 use attributes::Fault;
+use event_files::ReportFault;
 use event_json::ReadFault;
-use file_reports::ReportFault;
 use std::alloc::{AllocError, Global};
 
 /// The name of a fault, as it is printed.
 pub fn fault_name<'a>(fault: Fault) -> &'a str
-    ensures { result.now ≡ fault_name fault }
+    ensures { result.now ≡ name_of_event_fault fault }
 {
     match fault {
         Fault::OutOfMemory => "OutOfMemory",

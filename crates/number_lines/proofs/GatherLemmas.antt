@@ -12,7 +12,7 @@ use Rattle.line_intake.specs.Judged.{TakesLines}
 use Rattle.line_intake.specs.Lines.{TakesLine}
 use Rattle.line_intake.proofs.GatherLemmas.{on_three, takes_same}
 use Rattle.numbers.specs.Numbered.{AreBare}
-use Rattle.number_lines.specs.Judged.{AreJudged, AreOwn, IsGathered, IsJudged, IsOwn, faults_in}
+use Rattle.number_lines.specs.Judged.{AreJudgedToNumber, AreOwn, IsGatheredToNumber, IsJudgedToNumber, IsOwn, refusals_in}
 use Rattle.number_lines.specs.declared.refusal.LineRefusal.{LineRefusal}
 use Rattle.number_lines.specs.declared.refusal.LineRefusal.TheVariants.{Aside, Number, Read}
 use Rattle.number_lines.specs.declared.refusal.Told.{Told}
@@ -33,8 +33,8 @@ module _ (aside : Option (List ℕ)) where
   takes_end a b c [] none end = Consumes-trans a b c [] [] none end
   takes_end a b c (l ∷ lines) (mid, first, later) end = (mid, first, takes_end mid b c lines later end)
 
-  judged_line : (before now : ℕ) (lines : List (List ℕ)) (tells : List Told) (lists : List (List EventValue)) (b : ℕ) (line : List ℕ) (told : Told) (L : List EventValue) → now ≡ before + length lines → told.line ≡ suc now → IsJudged aside (b ∷ line) told.fault L
-      → AreJudged aside before lines tells lists → AreJudged aside before (lines ++ (b ∷ line) ∷ []) (tells ++ told ∷ []) (lists ++ L ∷ [])
+  judged_line : (before now : ℕ) (lines : List (List ℕ)) (tells : List Told) (lists : List (List EventValue)) (b : ℕ) (line : List ℕ) (told : Told) (L : List EventValue) → now ≡ before + length lines → told.line ≡ suc now → IsJudgedToNumber aside (b ∷ line) told.fault L
+      → AreJudgedToNumber aside before lines tells lists → AreJudgedToNumber aside before (lines ++ (b ∷ line) ∷ []) (tells ++ told ∷ []) (lists ++ L ∷ [])
   judged_line before now [] [] [] b line told L count at judged so_far = ((let e : told.line ≡ suc before = omega (arith, count, at) in e), judged, tt)
   judged_line before now [] (t ∷ tells) lists b line told L count at judged so_far = absurd so_far
   judged_line before now [] [] (M ∷ lists) b line told L count at judged so_far = absurd so_far
@@ -43,7 +43,7 @@ module _ (aside : Option (List ℕ)) where
   judged_line before now ((x ∷ xs) ∷ lines) (t ∷ tells) [] b line told L count at judged so_far = absurd so_far
   judged_line before now ((x ∷ xs) ∷ lines) (t ∷ tells) (M ∷ lists) b line told L count at judged so_far = (so_far.0, so_far.1, judged_line (suc before) now lines tells lists b line told L (omega (arith, count)) at judged so_far.2)
 
-  judged_empty : (before : ℕ) (lines : List (List ℕ)) (tells : List Told) (lists : List (List EventValue)) → AreJudged aside before lines tells lists → AreJudged aside before (lines ++ [] ∷ []) tells lists
+  judged_empty : (before : ℕ) (lines : List (List ℕ)) (tells : List Told) (lists : List (List EventValue)) → AreJudgedToNumber aside before lines tells lists → AreJudgedToNumber aside before (lines ++ [] ∷ []) tells lists
   judged_empty before [] [] [] so_far = tt
   judged_empty before [] (t ∷ tells) lists so_far = absurd so_far
   judged_empty before [] [] (M ∷ lists) so_far = absurd so_far
@@ -56,13 +56,13 @@ module _ (aside : Option (List ℕ)) where
   length_more [] x = refl
   length_more (y ∷ xs) x = (let more = length_more xs x in omega (arith, more))
 
-  pub gathered_none : (before : ℕ) (a : Option (List ℕ)) → IsGathered aside before before a a [] []
+  pub gathered_none : (before : ℕ) (a : Option (List ℕ)) → IsGatheredToNumber aside before before a a [] []
   gathered_none before a = record { lines = []; taken = Consumes-nil a; judged = tt; count = omega arith }
 
-  pub gathered_end : (before now : ℕ) (a b c : Option (List ℕ)) (tells : List Told) (lists : List (List EventValue)) → IsGathered aside before now a b tells lists → Consumes b c [] → IsGathered aside before now a c tells lists
+  pub gathered_end : (before now : ℕ) (a b c : Option (List ℕ)) (tells : List Told) (lists : List (List EventValue)) → IsGatheredToNumber aside before now a b tells lists → Consumes b c [] → IsGatheredToNumber aside before now a c tells lists
   gathered_end before now a b c tells lists g end = record { lines = g.lines; taken = takes_end a b c g.lines g.taken end; judged = g.judged; count = g.count }
 
-  pub gathered_empty : (before now next : ℕ) (a b c : Option (List ℕ)) (tells : List Told) (lists : List (List EventValue)) (line : List ℕ) → next ≡ now + 1 → line ≡ [] → IsGathered aside before now a b tells lists → TakesLine b c line → IsGathered aside before next a c tells lists
+  pub gathered_empty : (before now next : ℕ) (a b c : Option (List ℕ)) (tells : List Told) (lists : List (List EventValue)) (line : List ℕ) → next ≡ now + 1 → line ≡ [] → IsGatheredToNumber aside before now a b tells lists → TakesLine b c line → IsGatheredToNumber aside before next a c tells lists
   gathered_empty before now next a b c tells lists line is none g it = record {
     lines = g.lines ++ [] ∷ [];
     taken = takes_more a b c g.lines [] g.taken (subst (TakesLine b c) none it);
@@ -70,13 +70,13 @@ module _ (aside : Option (List ℕ)) where
     count = (let more = length_more g.lines [] in let e : next ≡ before + length (g.lines ++ [] ∷ []) = omega (arith, more, g.count, is) in e);
   }
 
-  pub gathered_line : (before now next : ℕ) (a b c : Option (List ℕ)) (tells new_tells : List Told) (lists new_lists : List (List EventValue)) (line : List ℕ) (fault : Option LineRefusal) (L : List EventValue) → next ≡ now + 1 → line ≢ [] → IsJudged aside line fault L
-      → new_tells ≡ tells ++ (record { line = now + 1; fault = fault }) ∷ [] → new_lists ≡ lists ++ L ∷ [] → IsGathered aside before now a b tells lists → TakesLine b c line → IsGathered aside before next a c new_tells new_lists
+  pub gathered_line : (before now next : ℕ) (a b c : Option (List ℕ)) (tells new_tells : List Told) (lists new_lists : List (List EventValue)) (line : List ℕ) (fault : Option LineRefusal) (L : List EventValue) → next ≡ now + 1 → line ≢ [] → IsJudgedToNumber aside line fault L
+      → new_tells ≡ tells ++ (record { line = now + 1; fault = fault }) ∷ [] → new_lists ≡ lists ++ L ∷ [] → IsGatheredToNumber aside before now a b tells lists → TakesLine b c line → IsGatheredToNumber aside before next a c new_tells new_lists
   gathered_line before now next a b c tells new_tells lists new_lists [] fault L is filled judged told given g it = absurd (filled refl)
   gathered_line before now next a b c tells new_tells lists new_lists (x ∷ line) fault L is filled judged told given g it =
       let one : Told = record { line = now + 1; fault = fault } in
-      subst (λ ts. IsGathered aside before next a c ts new_lists) (sym told)
-      (subst (λ ls. IsGathered aside before next a c (tells ++ one ∷ []) ls) (sym given) (record {
+      subst (λ ts. IsGatheredToNumber aside before next a c ts new_lists) (sym told)
+      (subst (λ ls. IsGatheredToNumber aside before next a c (tells ++ one ∷ []) ls) (sym given) (record {
         lines = g.lines ++ (x ∷ line) ∷ [];
         taken = takes_more a b c g.lines (x ∷ line) g.taken it;
         judged = judged_line before now g.lines tells lists x line one L g.count (omega arith) judged g.judged;
@@ -84,11 +84,11 @@ module _ (aside : Option (List ℕ)) where
       }))
 
   -- a line that is too long is no input
-  pub long_judged : (line : List ℕ) → max_input < length line → (line ≢ []) × IsJudged aside line (Some (Read InputTooLarge)) []
+  pub long_judged : (line : List ℕ) → max_input < length line → (line ≢ []) × IsJudgedToNumber aside line (Some (Read InputTooLarge)) []
   long_judged line long = ((λ e. let n = ap length e in omega (arith, n, long)), (long, refl))
 
   -- as many lines are told as there are lists
-  pub even_judged : (before : ℕ) (lines : List (List ℕ)) (tells : List Told) (lists : List (List EventValue)) → AreJudged aside before lines tells lists → length tells ≡ length lists
+  pub even_judged : (before : ℕ) (lines : List (List ℕ)) (tells : List Told) (lists : List (List EventValue)) → AreJudgedToNumber aside before lines tells lists → length tells ≡ length lists
   even_judged before [] [] [] so_far = refl
   even_judged before [] (t ∷ tells) lists so_far = absurd so_far
   even_judged before [] [] (M ∷ lists) so_far = absurd so_far
@@ -97,17 +97,17 @@ module _ (aside : Option (List ℕ)) where
   even_judged before ((x ∷ xs) ∷ lines) (t ∷ tells) [] so_far = absurd so_far
   even_judged before ((x ∷ xs) ∷ lines) (t ∷ tells) (M ∷ lists) so_far = ap suc (even_judged (suc before) lines tells lists so_far.2)
 
-  pub even_gathered : (before now : ℕ) (a b : Option (List ℕ)) (tells : List Told) (lists : List (List EventValue)) → IsGathered aside before now a b tells lists → length tells ≡ length lists
+  pub even_gathered : (before now : ℕ) (a b : Option (List ℕ)) (tells : List Told) (lists : List (List EventValue)) → IsGatheredToNumber aside before now a b tells lists → length tells ≡ length lists
   even_gathered before now a b tells lists g = even_judged before g.lines tells lists g.judged
 
   -- the events of gathered lines can be numbered
-  judged_bare : (line : List ℕ) (fault : Option LineRefusal) (L : List EventValue) → IsJudged aside line fault L → AreBare L
+  judged_bare : (line : List ℕ) (fault : Option LineRefusal) (L : List EventValue) → IsJudgedToNumber aside line fault L → AreBare L
   judged_bare line None L is = is.3
   judged_bare line (Some (Read why)) L is = subst AreBare (sym is.1) tt
   judged_bare line (Some (Number why)) L (given, events, reads, own, refused, none) = subst AreBare (sym none) tt
   judged_bare line (Some (Aside index)) L (given, reads, few, none) = subst AreBare (sym none) tt
 
-  bare_judged : (before : ℕ) (lines : List (List ℕ)) (tells : List Told) (lists : List (List EventValue)) → AreJudged aside before lines tells lists → AllByRecursion AreBare lists
+  bare_judged : (before : ℕ) (lines : List (List ℕ)) (tells : List Told) (lists : List (List EventValue)) → AreJudgedToNumber aside before lines tells lists → AllByRecursion AreBare lists
   bare_judged before [] [] [] so_far = tt
   bare_judged before [] (t ∷ tells) lists so_far = absurd so_far
   bare_judged before [] [] (M ∷ lists) so_far = absurd so_far
@@ -116,7 +116,7 @@ module _ (aside : Option (List ℕ)) where
   bare_judged before ((x ∷ xs) ∷ lines) (t ∷ tells) [] so_far = absurd so_far
   bare_judged before ((x ∷ xs) ∷ lines) (t ∷ tells) (M ∷ lists) so_far = (judged_bare (x ∷ xs) t.fault M so_far.1, bare_judged (suc before) lines tells lists so_far.2)
 
-  pub bare_gathered : (before now : ℕ) (a b : Option (List ℕ)) (tells : List Told) (lists : List (List EventValue)) → IsGathered aside before now a b tells lists → AllByRecursion AreBare lists
+  pub bare_gathered : (before now : ℕ) (a b : Option (List ℕ)) (tells : List Told) (lists : List (List EventValue)) → IsGatheredToNumber aside before now a b tells lists → AllByRecursion AreBare lists
   bare_gathered before now a b tells lists g = bare_judged before g.lines tells lists g.judged
 
   abbrev one_if : Bool → ℕ
@@ -126,7 +126,7 @@ module _ (aside : Option (List ℕ)) where
   few_one true = omega arith
   few_one false = omega arith
 
-  few_judged : (before : ℕ) (lines : List (List ℕ)) (tells : List Told) (lists : List (List EventValue)) → AreJudged aside before lines tells lists → faults_in tells ≤ length lines
+  few_judged : (before : ℕ) (lines : List (List ℕ)) (tells : List Told) (lists : List (List EventValue)) → AreJudgedToNumber aside before lines tells lists → refusals_in tells ≤ length lines
   few_judged before [] [] [] so_far = omega arith
   few_judged before [] (t ∷ tells) lists so_far = absurd so_far
   few_judged before [] [] (M ∷ lists) so_far = absurd so_far
@@ -139,7 +139,7 @@ module _ (aside : Option (List ℕ)) where
       omega (arith, more, one, sum_by-cons (λ (t : Told). one_if (is_some t.fault)) t tells)
 
   -- the lines of a turn that are refused are no more than its lines
-  pub few_gathered : (before now : ℕ) (a b : Option (List ℕ)) (tells : List Told) (lists : List (List EventValue)) → IsGathered aside before now a b tells lists → before + faults_in tells ≤ now
+  pub few_gathered : (before now : ℕ) (a b : Option (List ℕ)) (tells : List Told) (lists : List (List EventValue)) → IsGatheredToNumber aside before now a b tells lists → before + refusals_in tells ≤ now
   few_gathered before now a b tells lists g = (let few = few_judged before g.lines tells lists g.judged in omega (arith, few, g.count))
 
   -- ---- lines behind lines
@@ -152,9 +152,9 @@ module _ (aside : Option (List ℕ)) where
   takes_join a b c [] more none it = takes_from a b c more none it
   takes_join a b c (l ∷ lines) more (mid, first, later) it = (mid, first, takes_join mid b c lines more later it)
 
-  pub judged_join : (before now : ℕ) (lines more : List (List ℕ)) (tells tells' : List Told) (lists lists' : List (List EventValue)) → now ≡ before + length lines → AreJudged aside before lines tells lists → AreJudged aside now more tells' lists'
-      → AreJudged aside before (lines ++ more) (tells ++ tells') (lists ++ lists')
-  judged_join before now [] more [] tells' [] lists' count so_far it = (let here : now ≡ before = omega (arith, count) in subst (λ n. AreJudged aside n more tells' lists') here it)
+  pub judged_join : (before now : ℕ) (lines more : List (List ℕ)) (tells tells' : List Told) (lists lists' : List (List EventValue)) → now ≡ before + length lines → AreJudgedToNumber aside before lines tells lists → AreJudgedToNumber aside now more tells' lists'
+      → AreJudgedToNumber aside before (lines ++ more) (tells ++ tells') (lists ++ lists')
+  judged_join before now [] more [] tells' [] lists' count so_far it = (let here : now ≡ before = omega (arith, count) in subst (λ n. AreJudgedToNumber aside n more tells' lists') here it)
   judged_join before now [] more (t ∷ tells) tells' lists lists' count so_far it = absurd so_far
   judged_join before now [] more [] tells' (M ∷ lists) lists' count so_far it = absurd so_far
   judged_join before now ([] ∷ lines) more tells tells' lists lists' count so_far it = judged_join (suc before) now lines more tells tells' lists lists' (omega (arith, count)) so_far it

@@ -13,11 +13,11 @@ use Rattle.line_intake.specs.Written.{Wrote}
 use Rattle.line_intake.proofs.WrittenLemmas.{Appends-kept, Wrote-behind, Wrote-start}
 use Rattle.numbers.specs.Counts.{Counts}
 use Rattle.numbers.specs.Numberer.{taken}
-use Rattle.number_table.specs.Calls.{Stands, from}
+use Rattle.number_table.specs.Calls.{StandsNumbered, from}
 use Rattle.number_table.specs.Each.{AreNumberedEach, NumberEachEffect}
 use Rattle.number_table.proofs.EachLemmas.{each_join, taken_join}
-use Rattle.number_lines.specs.Judged.{IsGathered, faults_in}
-use Rattle.number_lines.specs.Numbering.{AreNumbered, Numbers, NumbersAll, NumbersPart, NumbersSome, NumbersTurn, NumbersUntil, NumbersUnwritten, StopsTurn}
+use Rattle.number_lines.specs.Judged.{IsGatheredToNumber, refusals_in}
+use Rattle.number_lines.specs.Numbering.{AreLinesNumbered, Numbers, NumbersAll, NumbersRest, NumbersSome, NumbersTurn, NumbersUntil, NumbersUnwritten, StopsNumbering}
 use Rattle.number_lines.specs.Texts.{fault_text, numbered_text}
 use Rattle.number_lines.specs.declared.refusal.Told.{Told}
 use Rattle.number_lines.specs.declared.stream.NumberingFault.{NumberingFault}
@@ -92,8 +92,8 @@ module _ (aside : Option (List ℕ)) (base : ℕ) where
         let one = first.numbers events rows stood in
         let two = later.numbers (taken events (joined lists)) (append_new key_cmp rows (joined answers)) one.1 in (
           each_join (from base) events lists answers more replies one.0 two.0,
-          subst (λ A. Stands base A (append_new key_cmp rows (joined (answers ++ replies))) new is) (sym (taken_join events lists more))
-              (subst (λ D. Stands base (taken (taken events (joined lists)) (joined more)) D new is) (sym (taken_join rows answers replies)) two.1),
+          subst (λ A. StandsNumbered base A (append_new key_cmp rows (joined (answers ++ replies))) new is) (sym (taken_join events lists more))
+              (subst (λ D. StandsNumbered base (taken (taken events (joined lists)) (joined more)) D new is) (sym (taken_join rows answers replies)) two.1),
         );
   }
 
@@ -110,11 +110,11 @@ module _ (aside : Option (List ℕ)) (base : ℕ) where
   abbrev Over : State → State → Option Counts → Option Counts → List (List EventValue) → List (List EventValue) → Type 0
   Over old new was is lists answers = Numbers base lists answers old new was is
 
-  stay : (input left : Option (List ℕ)) (tells : List Told) (answers : List (List EventValue)) (old mid new : State) (was then is : Option Counts) → AreNumbered aside (Over old mid was then) input left tells answers → Numbers base [] [] mid new then is → AreNumbered aside (Over old new was is) input left tells answers
+  stay : (input left : Option (List ℕ)) (tells : List Told) (answers : List (List EventValue)) (old mid new : State) (was then is : Option Counts) → AreLinesNumbered aside (Over old mid was then) input left tells answers → Numbers base [] [] mid new then is → AreLinesNumbered aside (Over old new was is) input left tells answers
   stay input left tells answers old mid new was then is are none = record { lines = are.lines; lists = are.lists; taken = are.taken; judged = are.judged; one_each = are.one_each; numbers = numbers_stay are.lists answers old mid new was then is are.numbers none }
 
-  are_more : (input left left' : Option (List ℕ)) (before next : ℕ) (tells more : List Told) (answers replies lists : List (List EventValue)) (old mid new : State) (was then is : Option Counts) (are : AreNumbered aside (Over old mid was then) input left tells answers)
-      → before ≡ length are.lines → IsGathered aside before next left left' more lists → Numbers base lists replies mid new then is → (all : AreNumbered aside (Over old new was is) input left' (tells ++ more) (answers ++ replies)) × (next ≡ length all.lines)
+  are_more : (input left left' : Option (List ℕ)) (before next : ℕ) (tells more : List Told) (answers replies lists : List (List EventValue)) (old mid new : State) (was then is : Option Counts) (are : AreLinesNumbered aside (Over old mid was then) input left tells answers)
+      → before ≡ length are.lines → IsGatheredToNumber aside before next left left' more lists → Numbers base lists replies mid new then is → (all : AreLinesNumbered aside (Over old new was is) input left' (tells ++ more) (answers ++ replies)) × (next ≡ length all.lines)
   are_more input left left' before next tells more answers replies lists old mid new was then is are count g numbers =
       let joined_numbers = numbers_join are.lists answers lists replies old mid new was then is are.numbers numbers in (
         record {
@@ -128,18 +128,18 @@ module _ (aside : Option (List ℕ)) (base : ℕ) where
         (let e : next ≡ length (are.lines ++ g.lines) = omega (arith, count, g.count, length-append are.lines g.lines) in e),
       )
 
-  even : (N : List (List EventValue) → List (List EventValue) → Type 0) (input left : Option (List ℕ)) (tells : List Told) (answers : List (List EventValue)) → AreNumbered aside N input left tells answers → length answers ≡ length tells
+  even : (N : List (List EventValue) → List (List EventValue) → Type 0) (input left : Option (List ℕ)) (tells : List Told) (answers : List (List EventValue)) → AreLinesNumbered aside N input left tells answers → length answers ≡ length tells
   even N input left tells answers are = are.one_each ∙ sym (even_judged aside 0 are.lines tells are.lists are.judged)
 
   -- so far the stream came to this
   pub record IsNumbering (input left out out' err err' : Option (List ℕ)) (old now : State) (was is : Option Counts) (lines faults : ℕ) : Type 0 where
     pub tells : List Told
     pub answers : List (List EventValue)
-    pub are : AreNumbered aside (Over old now was is) input left tells answers
+    pub are : AreLinesNumbered aside (Over old now was is) input left tells answers
     pub count : lines ≡ length are.lines
     pub written : Appends out out' (numbered_text tells answers)
     pub said : Appends err err' (fault_text tells)
-    pub faulty : faults ≡ faults_in tells
+    pub faulty : faults ≡ refusals_in tells
     pub few : faults ≤ lines
     pub clean : HasCleanDisk now → HasCleanDisk old
 
@@ -157,7 +157,7 @@ module _ (aside : Option (List ℕ)) (base : ℕ) where
   }
 
   pub numbering_more : (input left left' out mid_out out' err mid_err err' : Option (List ℕ)) (old mid new : State) (was then is : Option Counts) (lines next faults : ℕ) (more : List Told) (lists : List (List EventValue)) → IsNumbering input left out mid_out err mid_err old mid was then lines faults
-      → IsGathered aside lines next left left' more lists → NumbersTurn base more lists mid new then is mid_out out' mid_err err' → (HasCleanDisk new → HasCleanDisk mid) → IsNumbering input left' out out' err err' old new was is next (faults + faults_in more)
+      → IsGatheredToNumber aside lines next left left' more lists → NumbersTurn base more lists mid new then is mid_out out' mid_err err' → (HasCleanDisk new → HasCleanDisk mid) → IsNumbering input left' out out' err err' old new was is next (faults + refusals_in more)
   numbering_more input left left' out mid_out out' err mid_err err' old mid new was then is lines next faults more lists f g turn cleaner =
       let all = are_more input left left' lines next f.tells more f.answers turn.answers lists old mid new was then is f.are f.count g turn.numbers in
       record {
@@ -167,7 +167,7 @@ module _ (aside : Option (List ℕ)) (base : ℕ) where
         count = all.1;
         written = subst (Appends out out') (sym (numbered_join f.tells more f.answers turn.answers (even _ input left f.tells f.answers f.are))) (Appends-trans out mid_out out' _ _ f.written turn.written);
         said = subst (Appends err err') (sym (fault_join f.tells more)) (Appends-trans err mid_err err' _ _ f.said turn.said);
-        faulty = (let e : faults + faults_in more ≡ faults_in (f.tells ++ more) = omega (arith, f.faulty, sum_by-append (λ (t : Told). cond (is_some t.fault) 1 0) f.tells more) in e);
+        faulty = (let e : faults + refusals_in more ≡ refusals_in (f.tells ++ more) = omega (arith, f.faulty, sum_by-append (λ (t : Told). cond (is_some t.fault) 1 0) f.tells more) in e);
         few = (let few = few_gathered aside lines next left left' more lists g in omega (arith, few, f.few));
         clean = λ clean. f.clean (cleaner clean);
       }
@@ -179,7 +179,7 @@ module _ (aside : Option (List ℕ)) (base : ℕ) where
   numbering_some input left out out' err err' old now was is lines faults f = record { left = left; tells = f.tells; answers = f.answers; are = f.are; written = f.written; said = f.said }
 
   part : (input left left' out mid_out out' err mid_err err' : Option (List ℕ)) (old mid new : State) (was then is : Option Counts) (lines next faults : ℕ) (more : List Told) (lists : List (List EventValue)) → IsNumbering input left out mid_out err mid_err old mid was then lines faults
-      → IsGathered aside lines next left left' more lists → NumbersUnwritten base more lists mid new then is mid_out out' mid_err err' → NumbersPart aside (Over old new was is) input out out' err err'
+      → IsGatheredToNumber aside lines next left left' more lists → NumbersUnwritten base more lists mid new then is mid_out out' mid_err err' → NumbersRest aside (Over old new was is) input out out' err err'
   part input left left' out mid_out out' err mid_err err' old mid new was then is lines next faults more lists f g turn =
       let all = are_more input left left' lines next f.tells more f.answers turn.answers lists old mid new was then is f.are f.count g turn.numbers in
       record {
@@ -194,7 +194,7 @@ module _ (aside : Option (List ℕ)) (base : ℕ) where
       }
 
   pub numbering_stops : (input left left' out mid_out out' err mid_err err' : Option (List ℕ)) (old mid new : State) (was then is : Option Counts) (lines next faults : ℕ) (more : List Told) (lists : List (List EventValue)) (why : NumberingFault) → IsNumbering input left out mid_out err mid_err old mid was then lines faults
-      → IsGathered aside lines next left left' more lists → StopsTurn why base more lists mid new then is mid_out out' mid_err err' → NumbersUntil aside (Over old new was is) why input out out' err err'
+      → IsGatheredToNumber aside lines next left left' more lists → StopsNumbering why base more lists mid new then is mid_out out' mid_err err' → NumbersUntil aside (Over old new was is) why input out out' err err'
   numbering_stops input left left' out mid_out out' err mid_err err' old mid new was then is lines next faults more lists (Input fault) f g stop = absurd stop
   numbering_stops input left left' out mid_out out' err mid_err err' old mid new was then is lines next faults more lists (Numberer fault) f g (inl (none, kept, quiet)) =
       inl (record {
@@ -212,12 +212,12 @@ module _ (aside : Option (List ℕ)) (base : ℕ) where
 
   -- a turn of a numberer whose base is the same
   pub numbering_next : (input left left' out mid_out out' err mid_err err' : Option (List ℕ)) (old mid new : State) (was then is : Option Counts) (lines next faults b k : ℕ) (more : List Told) (lists : List (List EventValue)) → IsNumbering input left out mid_out err mid_err old mid was then lines faults
-      → IsGathered aside lines next left left' more lists → NumbersTurn b more lists mid new then is mid_out out' mid_err err' → b ≡ base → k ≡ faults_in more → (HasCleanDisk new → HasCleanDisk mid) → IsNumbering input left' out out' err err' old new was is next (faults + k)
+      → IsGatheredToNumber aside lines next left left' more lists → NumbersTurn b more lists mid new then is mid_out out' mid_err err' → b ≡ base → k ≡ refusals_in more → (HasCleanDisk new → HasCleanDisk mid) → IsNumbering input left' out out' err err' old new was is next (faults + k)
   numbering_next input left left' out mid_out out' err mid_err err' old mid new was then is lines next faults b k more lists f g turn same count cleaner =
       subst (λ m. IsNumbering input left' out out' err err' old new was is next (faults + m)) (sym count)
       (numbering_more input left left' out mid_out out' err mid_err err' old mid new was then is lines next faults more lists f g (subst (λ c. NumbersTurn c more lists mid new then is mid_out out' mid_err err') same turn) cleaner)
 
   pub numbering_end : (input left left' out mid_out out' err mid_err err' : Option (List ℕ)) (old mid new : State) (was then is : Option Counts) (lines next faults b : ℕ) (more : List Told) (lists : List (List EventValue)) (why : NumberingFault) → IsNumbering input left out mid_out err mid_err old mid was then lines faults
-      → IsGathered aside lines next left left' more lists → StopsTurn why b more lists mid new then is mid_out out' mid_err err' → b ≡ base → NumbersUntil aside (Over old new was is) why input out out' err err'
+      → IsGatheredToNumber aside lines next left left' more lists → StopsNumbering why b more lists mid new then is mid_out out' mid_err err' → b ≡ base → NumbersUntil aside (Over old new was is) why input out out' err err'
   numbering_end input left left' out mid_out out' err mid_err err' old mid new was then is lines next faults b more lists why f g stop same =
-      numbering_stops input left left' out mid_out out' err mid_err err' old mid new was then is lines next faults more lists why f g (subst (λ c. StopsTurn why c more lists mid new then is mid_out out' mid_err err') same stop)
+      numbering_stops input left left' out mid_out out' err mid_err err' old mid new was then is lines next faults more lists why f g (subst (λ c. StopsNumbering why c more lists mid new then is mid_out out' mid_err err') same stop)

@@ -15,10 +15,10 @@ use Rattle.inbox_table.specs.Rows.{IsInbox}
 use Rattle.database_layout.specs.Layout.{has_inbox}
 use Rattle.databases.specs.Held.{Holds}
 use Rattle.numbers.specs.Counts.{Counts}
-use Rattle.number_table.specs.Calls.{Stands}
+use Rattle.number_table.specs.Calls.{StandsNumbered}
 use Rattle.number_table.specs.Each.{AreNumberedEach}
 use Rattle.line_intake.proofs.WrittenLemmas.{Appends-kept}
-use Rattle.number_lines.specs.Numbering.{AreNumbered, Numbers, NumbersAll, NumbersPart, NumbersSome, NumbersUntil}
+use Rattle.number_lines.specs.Numbering.{AreLinesNumbered, Numbers, NumbersAll, NumbersRest, NumbersSome, NumbersUntil}
 use Rattle.number_lines.specs.Over.{IsNumberer, NumbersInto, NumbersOver}
 use Rattle.number_lines.specs.declared.refusal.Told.{Told}
 use Rattle.number_lines.specs.declared.stream.NumberingFault.{NumberingFault}
@@ -33,7 +33,7 @@ opened_events old new rows held opens h = go (has_inbox old.now.schema) refl
     go false absent = opens.none absent ∙ sym (h.none absent)
 
 -- the rows that an opened numberer has are those that the database held
-pub into : (base : ℕ) (old mid new : State) (was is : Option Counts) → (HasCleanDisk mid → (events rows : List EventValue) × Opens (λ _ _. ⊤) old mid rows × Stands base events rows mid was) → (HasCleanDisk new → HasCleanDisk mid)
+pub into : (base : ℕ) (old mid new : State) (was is : Option Counts) → (HasCleanDisk mid → (events rows : List EventValue) × Opens (λ _ _. ⊤) old mid rows × StandsNumbered base events rows mid was) → (HasCleanDisk new → HasCleanDisk mid)
     → (lists answers : List (List EventValue)) → Numbers base lists answers mid new was is → NumbersInto base old.now new lists answers
 into base old mid new was is opens cleaner lists answers n clean is_open rows holds =
     let o = opens (cleaner clean) in
@@ -49,7 +49,7 @@ abbrev Says : Type 1
 Says = List (List EventValue) → List (List EventValue) → Type 0
 
 module _ (aside : Option (List ℕ)) (N M : Says) (to : (lists answers : List (List EventValue)) → N lists answers → M lists answers) where
-  are_weaker : (input left : Option (List ℕ)) (tells : List Told) (answers : List (List EventValue)) → AreNumbered aside N input left tells answers → AreNumbered aside M input left tells answers
+  are_weaker : (input left : Option (List ℕ)) (tells : List Told) (answers : List (List EventValue)) → AreLinesNumbered aside N input left tells answers → AreLinesNumbered aside M input left tells answers
   are_weaker input left tells answers a = record { lines = a.lines; lists = a.lists; taken = a.taken; judged = a.judged; one_each = a.one_each; numbers = to a.lists answers a.numbers }
 
   pub all_weaker : (faults : ℕ) (input out out' err err' : Option (List ℕ)) → NumbersAll aside N faults input out out' err err' → NumbersAll aside M faults input out out' err err'
@@ -58,7 +58,7 @@ module _ (aside : Option (List ℕ)) (N M : Says) (to : (lists answers : List (L
   some_weaker : (input out out' err err' : Option (List ℕ)) → NumbersSome aside N input out out' err err' → NumbersSome aside M input out out' err err'
   some_weaker input out out' err err' a = record { left = a.left; tells = a.tells; answers = a.answers; are = are_weaker input a.left a.tells a.answers a.are; written = a.written; said = a.said }
 
-  part_weaker : (input out out' err err' : Option (List ℕ)) → NumbersPart aside N input out out' err err' → NumbersPart aside M input out out' err err'
+  part_weaker : (input out out' err err' : Option (List ℕ)) → NumbersRest aside N input out out' err err' → NumbersRest aside M input out out' err err'
   part_weaker input out out' err err' a = record { left = a.left; tells = a.tells; answers = a.answers; are = are_weaker input a.left a.tells a.answers a.are; rest = a.rest; written = a.written; unsaid = a.unsaid; said = a.said }
 
   pub until_weaker : (why : NumberingFault) (input out out' err err' : Option (List ℕ)) → NumbersUntil aside N why input out out' err err' → NumbersUntil aside M why input out out' err err'
@@ -83,7 +83,7 @@ each_of base old new was is lists answers n = n.each
 
 -- what a stream came to over the connection that it was begun with
 pub over_ok : (aside : Option (List ℕ)) (base b : ℕ) (old mid new conn : State) (was is : Option Counts) (input input' out out' err err' : Option (List ℕ)) (outcome : Result ℕ NumberingFault) → conn ≡ new → b ≡ base
-    → (HasCleanDisk mid → (events rows : List EventValue) × Opens (λ _ _. ⊤) old mid rows × Stands base events rows mid was) → (HasCleanDisk new → HasCleanDisk mid) → IfOk outcome (λ n. NumbersAll aside (λ lists answers. Numbers b lists answers mid new was is) n input out out' err err')
+    → (HasCleanDisk mid → (events rows : List EventValue) × Opens (λ _ _. ⊤) old mid rows × StandsNumbered base events rows mid was) → (HasCleanDisk new → HasCleanDisk mid) → IfOk outcome (λ n. NumbersAll aside (λ lists answers. Numbers b lists answers mid new was is) n input out out' err err')
     → IfErr outcome (λ f. NumbersUntil aside (λ lists answers. Numbers b lists answers mid new was is) f input out out' err err') → (HasCleanDisk new → OnOk outcome (IsSettled new)) → NumbersOver aside base input input' out out' err err' outcome old conn
 over_ok aside base b old mid new conn was is input input' out out' err err' outcome same own opens cleaner all until settled =
     let to : (lists answers : List (List EventValue)) → Numbers b lists answers mid new was is → NumbersInto base old.now new lists answers =

@@ -39,35 +39,35 @@ StopsAside (Some name) given index = IsFirstNotAside name given index
 -- the line spells events, and these are they as they are numbered, none with a number and each with
 -- room for one; or this is why nothing of it is numbered: it spells none, this is the first that
 -- can't be numbered, or the first whose own number can't go by the name for it
-abbrev pub IsJudged : Option (List ℕ) → List ℕ → Option LineRefusal → List EventValue → Type 0
-IsJudged aside line None L =
+abbrev pub IsJudgedToNumber : Option (List ℕ) → List ℕ → Option LineRefusal → List EventValue → Type 0
+IsJudgedToNumber aside line None L =
     (given : List EventValue) × Reads line given × AreOwn aside given L × AreBare L
-IsJudged aside line (Some (refusal.Read why)) L = Refuses line why × (L ≡ [])
-IsJudged aside line (Some (refusal.Number why)) L = (given events : List EventValue)
+IsJudgedToNumber aside line (Some (refusal.Read why)) L = Refuses line why × (L ≡ [])
+IsJudgedToNumber aside line (Some (refusal.Number why)) L = (given events : List EventValue)
     × Reads line given × AreOwn aside given events × (refusal_from 0 events ≡ Some why) × (L ≡ [])
-IsJudged aside line (Some (refusal.Aside index)) L =
+IsJudgedToNumber aside line (Some (refusal.Aside index)) L =
     (given : List EventValue) × Reads line given × StopsAside aside given index × (L ≡ [])
 
 -- these lines come behind so many others; each but the empty ones is told with its place, counted
 -- from 1, and with its events
-abbrev pub AreJudged : Option (List ℕ) → ℕ → List (List ℕ) → List Told → List (List EventValue)
+abbrev pub AreJudgedToNumber : Option (List ℕ) → ℕ → List (List ℕ) → List Told → List (List EventValue)
     → Type 0
-AreJudged aside before [] [] [] = Unit {0}
-AreJudged aside before ([] ∷ lines) tells lists = AreJudged aside (suc before) lines tells lists
-AreJudged aside before ((b ∷ line) ∷ lines) (told ∷ tells) (L ∷ lists) =
-    (told.line ≡ suc before) × IsJudged aside (b ∷ line) told.fault L
-    × AreJudged aside (suc before) lines tells lists
-AreJudged aside before _ _ _ = ⊥
+AreJudgedToNumber aside before [] [] [] = Unit {0}
+AreJudgedToNumber aside before ([] ∷ lines) tells lists = AreJudgedToNumber aside (suc before) lines tells lists
+AreJudgedToNumber aside before ((b ∷ line) ∷ lines) (told ∷ tells) (L ∷ lists) =
+    (told.line ≡ suc before) × IsJudgedToNumber aside (b ∷ line) told.fault L
+    × AreJudgedToNumber aside (suc before) lines tells lists
+AreJudgedToNumber aside before _ _ _ = ⊥
 
 -- so many lines were there before, so many are there now: the input lost those between, and they
 -- are told so
-pub record IsGathered (aside : Option (List ℕ)) (before now : ℕ) (old new : Option (List ℕ))
+pub record IsGatheredToNumber (aside : Option (List ℕ)) (before now : ℕ) (old new : Option (List ℕ))
     (tells : List Told) (lists : List (List EventValue)) : Type 0 where
   pub lines : List (List ℕ)
   pub taken : TakesLines old lines new
-  pub judged : AreJudged aside before lines tells lists
+  pub judged : AreJudgedToNumber aside before lines tells lists
   pub count : now ≡ before + length lines
 
 -- how many lines are refused
-abbrev pub faults_in : List Told → ℕ
-faults_in tells = count_by (λ t. is_some t.fault) tells
+abbrev pub refusals_in : List Told → ℕ
+refusals_in tells = count_by (λ t. is_some t.fault) tells

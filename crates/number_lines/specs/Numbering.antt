@@ -10,10 +10,10 @@ use Rattle.line_intake.specs.Judged.{TakesLines}
 use Rattle.line_intake.specs.Written.{Wrote}
 use Rattle.numbers.specs.Counts.{Counts}
 use Rattle.numbers.specs.Numberer.{taken}
-use Rattle.number_table.specs.Calls.{Stands, from}
+use Rattle.number_table.specs.Calls.{StandsNumbered, from}
 use Rattle.number_table.specs.Each.{AnswersEach, AreNumberedEach}
 use Rattle.number_table.specs.declared.fault.NumbererFault.TheVariants.{OutOfMemory}
-use Rattle.number_lines.specs.Judged.{AreJudged, faults_in}
+use Rattle.number_lines.specs.Judged.{AreJudgedToNumber, refusals_in}
 use Rattle.number_lines.specs.Texts.{fault_text, numbered_text}
 use Rattle.number_lines.specs.declared.refusal.Told.{Told}
 use Rattle.number_lines.specs.declared.stream.NumberingFault.{NumberingFault}
@@ -25,9 +25,9 @@ pub record Numbers (base : ℕ) (lists answers : List (List EventValue)) (old ne
     (was is : Option Counts) : Type 0 where
   pub one_each : length answers ≡ length lists
   pub each : AreNumberedEach lists answers
-  pub numbers : (events rows : List EventValue) → Stands base events rows old was
+  pub numbers : (events rows : List EventValue) → StandsNumbered base events rows old was
       → AnswersEach (from base) events lists answers
-      × Stands base (taken events (joined lists)) (append_new key_cmp rows (joined answers)) new is
+      × StandsNumbered base (taken events (joined lists)) (append_new key_cmp rows (joined answers)) new is
 
 -- ---- one turn
 
@@ -51,28 +51,28 @@ pub record NumbersUnwritten (base : ℕ) (tells : List Told) (lists : List (List
 
 -- why a turn stops, and what it leaves. The numberer refused it: nothing was written, and nothing
 -- was numbered; or, where memory for the texts is wanted, the events are. Or a write failed
-abbrev pub StopsTurn : NumberingFault → ℕ → List Told → List (List EventValue) → State → State
+abbrev pub StopsNumbering : NumberingFault → ℕ → List Told → List (List EventValue) → State → State
     → Option Counts → Option Counts → Option (List ℕ) → Option (List ℕ) → Option (List ℕ)
     → Option (List ℕ) → Type 0
-StopsTurn (fault.Input why) base tells lists old new was is out out' err err' = ⊥
-StopsTurn (fault.Numberer why) base tells lists old new was is out out' err err' =
+StopsNumbering (fault.Input why) base tells lists old new was is out out' err err' = ⊥
+StopsNumbering (fault.Numberer why) base tells lists old new was is out out' err err' =
     (Numbers base [] [] old new was is × Keeps out out' × Keeps err err')
     ⊎ ((why ≡ OutOfMemory)
     × NumbersUnwritten base tells lists old new was is out out' err err')
-StopsTurn fault.Unwritten base tells lists old new was is out out' err err' =
+StopsNumbering fault.Unwritten base tells lists old new was is out out' err err' =
     NumbersUnwritten base tells lists old new was is out out' err err'
 
 -- ---- a stream, whatever is said of the numbers
 
 -- the input lost lines, from its first on; each but the empty ones is told with its events, and the
 -- events of each with an answer, which are as N says
-pub record AreNumbered (aside : Option (List ℕ))
+pub record AreLinesNumbered (aside : Option (List ℕ))
     (N : List (List EventValue) → List (List EventValue) → Type 0) (input left : Option (List ℕ))
     (tells : List Told) (answers : List (List EventValue)) : Type 0 where
   pub lines : List (List ℕ)
   pub lists : List (List EventValue)
   pub taken : TakesLines input lines left
-  pub judged : AreJudged aside 0 lines tells lists
+  pub judged : AreJudgedToNumber aside 0 lines tells lists
   pub one_each : length answers ≡ length lists
   pub numbers : N lists answers
 
@@ -83,18 +83,18 @@ pub record NumbersSome (aside : Option (List ℕ))
   pub left : Option (List ℕ)
   pub tells : List Told
   pub answers : List (List EventValue)
-  pub are : AreNumbered aside N input left tells answers
+  pub are : AreLinesNumbered aside N input left tells answers
   pub written : Appends out out' (numbered_text tells answers)
   pub said : Appends err err' (fault_text tells)
 
 -- so they were but for the rests of the texts, which weren't written
-pub record NumbersPart (aside : Option (List ℕ))
+pub record NumbersRest (aside : Option (List ℕ))
     (N : List (List EventValue) → List (List EventValue) → Type 0)
     (input out out' err err' : Option (List ℕ)) : Type 0 where
   pub left : Option (List ℕ)
   pub tells : List Told
   pub answers : List (List EventValue)
-  pub are : AreNumbered aside N input left tells answers
+  pub are : AreLinesNumbered aside N input left tells answers
   pub rest : List ℕ
   pub written : Wrote out out' (numbered_text tells answers) rest
   pub unsaid : List ℕ
@@ -107,10 +107,10 @@ pub record NumbersAll (aside : Option (List ℕ))
   pub over : IsAtEnd left
   pub tells : List Told
   pub answers : List (List EventValue)
-  pub are : AreNumbered aside N input left tells answers
+  pub are : AreLinesNumbered aside N input left tells answers
   pub written : Appends out out' (numbered_text tells answers)
   pub said : Appends err err' (fault_text tells)
-  pub faulty : faults ≡ faults_in tells
+  pub faulty : faults ≡ refusals_in tells
 
 -- what is numbered and answered where the stream ends for this fault
 abbrev pub NumbersUntil : Option (List ℕ)
@@ -120,5 +120,5 @@ abbrev pub NumbersUntil : Option (List ℕ)
 NumbersUntil aside N (fault.Input why) input out out' err err' = NumbersSome aside N input out out' err err'
 NumbersUntil aside N (fault.Numberer why) input out out' err err' =
     NumbersSome aside N input out out' err err'
-    ⊎ ((why ≡ OutOfMemory) × NumbersPart aside N input out out' err err')
-NumbersUntil aside N fault.Unwritten input out out' err err' = NumbersPart aside N input out out' err err'
+    ⊎ ((why ≡ OutOfMemory) × NumbersRest aside N input out out' err err')
+NumbersUntil aside N fault.Unwritten input out out' err err' = NumbersRest aside N input out out' err err'

@@ -37,7 +37,7 @@ NumbersInto base old new lists answers = HasCleanDisk new → IsTrue new.is_open
 
 -- the numberer couldn't be had: nothing was read and nothing written, and the database has the rows
 -- that it had
-pub record StaysUnread (f : NumberingFault) (input input' out out' err err' : Option (List ℕ))
+pub record StaysUnnumbered (f : NumberingFault) (input input' out out' err err' : Option (List ℕ))
     (old new : State) : Type 0 where
   pub why : NumbererFault
   pub is : f ≡ fault.Numberer why
@@ -53,7 +53,7 @@ pub record NumbersOver (aside : Option (List ℕ)) (base : ℕ) (input input' ou
       NumbersAll aside (NumbersInto base old.now new) faults input out out' err err')
   pub until : IfErr outcome (λ f.
       NumbersUntil aside (NumbersInto base old.now new) f input out out' err err'
-      ⊎ StaysUnread f input input' out out' err err' old new)
+      ⊎ StaysUnnumbered f input input' out out' err err' old new)
   -- a crash leaves them
   pub settled : HasCleanDisk new → OnOk outcome (IsSettled new)
 

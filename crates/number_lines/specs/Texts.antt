@@ -3,7 +3,7 @@ use Rattle.std.specs.Prelude.{ℕ, List, [], ◌∷◌, ◌++◌, codes, Option,
 use Rattle.std.specs.Fmt.{decimal}
 use Rattle.attributes.specs.Event.{EventValue}
 use Rattle.event_json.specs.BatchText.{batch_text}
-use Rattle.number_lines.specs.Words.{words_of}
+use Rattle.number_lines.specs.Words.{words_of_refusal}
 use Rattle.number_lines.specs.declared.refusal.LineRefusal.{LineRefusal}
 use Rattle.number_lines.specs.declared.refusal.Told.{Told}
 
@@ -18,13 +18,13 @@ numbered_text (told ∷ tells) (answer ∷ answers) =
 numbered_text _ _ = []
 
 -- a line is refused
-abbrev pub fault_line : ℕ → LineRefusal → List ℕ
-fault_line line why = codes "{\"line\":" ++ decimal line ++ codes ",\"fault\":\"" ++ words_of why
+abbrev pub refused_line_text : ℕ → LineRefusal → List ℕ
+refused_line_text line why = codes "{\"line\":" ++ decimal line ++ codes ",\"fault\":\"" ++ words_of_refusal why
     ++ codes "\"}" ++ 10 ∷ []
 
 abbrev pub refusal_text : ℕ → Option LineRefusal → List ℕ
 refusal_text line None = []
-refusal_text line (Some why) = fault_line line why
+refusal_text line (Some why) = refused_line_text line why
 
 abbrev pub fault_text : List Told → List ℕ
 fault_text [] = []

@@ -1,7 +1,7 @@
 -- The words of refusals.
 use Rattle.std.specs.Prelude.{ℕ, List, ◌++◌, codes}
 use Rattle.std.specs.Fmt.{decimal}
-use Rattle.file_reports.specs.declared.refusal.ReportFault.TheVariants as report
+use Rattle.event_files.specs.declared.refusal.ReportFault.TheVariants as report
 use Rattle.line_intake.specs.Words as line
 use Rattle.numbers.specs.declared.fault.NumberFault.{NumberFault}
 use Rattle.numbers.specs.declared.fault.NumberFault.TheVariants as number
@@ -16,7 +16,7 @@ number_words (number.TooLarge index) = codes "event " ++ decimal index ++ codes 
 number_words (number.Full index) = codes "event " ++ decimal index ++ codes ": Full"
 
 -- of a line; where it spells no events, as of a file
-abbrev pub words_of : LineRefusal → List ℕ
-words_of (refusal.Read why) = line.words_of (report.Read why)
-words_of (refusal.Number why) = number_words why
-words_of (refusal.Aside index) = codes "event " ++ decimal index ++ codes ": Aside"
+abbrev pub words_of_refusal : LineRefusal → List ℕ
+words_of_refusal (refusal.Read why) = line.words_of (report.Read why)
+words_of_refusal (refusal.Number why) = number_words why
+words_of_refusal (refusal.Aside index) = codes "event " ++ decimal index ++ codes ": Aside"

@@ -7,7 +7,8 @@ ghost use Rattle.sqlite.specs.State.{HasCleanDisk, Survives};
 ghost use Rattle.inbox_table.specs.Calls.{IsSettled};
 ghost use Rattle.numbers.specs.Numbered.{AreBare};
 ghost use Rattle.number_table.specs.Each.{MayNumberEach};
-ghost use Rattle.number_lines.specs.Numbering.{Numbers, NumbersAll, NumbersTurn, NumbersUntil, StopsTurn};
+ghost use Rattle.number_lines.specs.Numbering.{Numbers, NumbersAll, NumbersTurn, NumbersUntil, StopsNumbering};
+ghost use Rattle.databases.specs.Done.{OpenIfDone, SettledIfDone};
 
 use crate::text::{fault_text, numbered_text};
 use crate::turn::{Gathered, gather};
@@ -53,14 +54,12 @@ pub fn number_gathered<S: Alter + Drop, W: Write, E: Write>(
         gathered.now.lists (state S.Store numberer.old.table.conn)
         (state S.Store numberer.new.table.conn) numberer.old.counted numberer.new.counted
         (W.contents out.old) (W.contents out.new) (E.contents err.old) (E.contents err.new)) }
-    ensures stops { IfErr result (λ f. StopsTurn f numberer.old.base gathered.now.tells
+    ensures stops { IfErr result (λ f. StopsNumbering f numberer.old.base gathered.now.tells
         gathered.now.lists (state S.Store numberer.old.table.conn)
         (state S.Store numberer.new.table.conn) numberer.old.counted numberer.new.counted
         (W.contents out.old) (W.contents out.new) (E.contents err.old) (E.contents err.new)) }
-    ensures open { HasCleanDisk (state S.Store numberer.new.table.conn)
-        → OnOk result (IsTrue (state S.Store numberer.new.table.conn).is_open) }
-    ensures settled { HasCleanDisk (state S.Store numberer.new.table.conn)
-        → OnOk result (IsSettled (state S.Store numberer.new.table.conn)) }
+    ensures open { OpenIfDone (state S.Store numberer.new.table.conn) result }
+    ensures settled { SettledIfDone (state S.Store numberer.new.table.conn) result }
     ensures crash { Survives
         (state S.Store numberer.old.table.conn) (state S.Store numberer.new.table.conn)
         (λ trees. IsTrue (state S.Store numberer.old.table.conn).is_open
@@ -116,10 +115,8 @@ pub fn number_lines<S: Alter + Drop, R: Read, W: Write, E: Write>(
         (E.contents err.old) (E.contents err.new)) }
     ensures clean { HasCleanDisk (state S.Store numberer.new.table.conn)
         → HasCleanDisk (state S.Store numberer.old.table.conn) }
-    ensures open { HasCleanDisk (state S.Store numberer.new.table.conn)
-        → OnOk result (IsTrue (state S.Store numberer.new.table.conn).is_open) }
-    ensures settled { HasCleanDisk (state S.Store numberer.new.table.conn)
-        → OnOk result (IsSettled (state S.Store numberer.new.table.conn)) }
+    ensures open { OpenIfDone (state S.Store numberer.new.table.conn) result }
+    ensures settled { SettledIfDone (state S.Store numberer.new.table.conn) result }
 {
     let mut pending = Pending::empty(alloc);
     let mut lines = 0u64;

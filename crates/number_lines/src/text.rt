@@ -1,7 +1,7 @@
 //! What is written of lines: their events with their numbers, and why lines are refused.
 
 ghost use Rattle.std.specs.Prelude.{◌≡◌, length, IfOk, string_bytes};
-ghost use Rattle.number_lines.specs.Texts.{fault_line, fault_text, line_text, numbered_text, refusal_text};
+ghost use Rattle.number_lines.specs.Texts.{refused_line_text, fault_text, line_text, numbered_text, refusal_text};
 
 use crate::refusal::{LineRefusal, Told};
 use crate::words::words_of;
@@ -44,7 +44,7 @@ pub fn numbered_text(
 
 /// The line that says why a line is refused.
 fn fault_line(alloc: Global, line: u64, refusal: LineRefusal) -> Result<String, AllocError>
-    ensures { IfOk result (λ text. string_bytes text ≡ fault_line line refusal) }
+    ensures { IfOk result (λ text. string_bytes text ≡ refused_line_text line refusal) }
 {
     let words = words_of(alloc, refusal)?;
     let text = format!(in alloc; "{{\"line\":{line},\"fault\":\"{words}\"}}\n")?;

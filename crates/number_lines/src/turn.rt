@@ -4,7 +4,7 @@ ghost use Rattle.std.specs.Prelude.{◌≡◌, ◌≢◌, ◌↔◌, ◌≤◌, 
 ghost use Rattle.std.specs.Io.KnownBytes.{IsAtEnd, prepend_known};
 ghost use Rattle.attributes.specs.Event.{EventValue, attribute_of};
 ghost use Rattle.line_intake.specs.Lines.{IsNext};
-ghost use Rattle.number_lines.specs.Judged.{IsGathered, IsJudged, IsOwn, faults_in};
+ghost use Rattle.number_lines.specs.Judged.{IsGatheredToNumber, IsJudgedToNumber, IsOwn, refusals_in};
 ghost use Rattle.number_lines.specs.steps.Owned.{AreOwned};
 
 use crate::refusal::{LineRefusal, Told};
@@ -95,7 +95,7 @@ fn own_all(alloc: Global, given: Events, aside: &Option<Text>) -> Result<Owned, 
 
 /// What the bytes of a line come to.
 fn judge(alloc: Global, line: &Octets, aside: &Option<Text>) -> Result<Judged, AllocError>
-    ensures { IfOk result (λ j. IsJudged aside.now line.now j.fault j.events) }
+    ensures { IfOk result (λ j. IsJudgedToNumber aside.now line.now j.fault j.events) }
 {
     match read_events(alloc, line.as_bytes()) {
         Ok(given) => match own_all(alloc, given, aside)? {
@@ -122,7 +122,7 @@ pub fn refusal_of(
     aside: &Option<Text>,
 ) -> Result<Option<LineRefusal>, AllocError>
     ensures { IfOk result (λ o.
-        (events : List EventValue) × IsJudged aside.now bytes.now o events) }
+        (events : List EventValue) × IsJudgedToNumber aside.now bytes.now o events) }
 {
     let judged = judge(alloc, bytes, aside)?;
     Ok(judged.fault)
@@ -157,7 +157,7 @@ impl Gathered {
 
     /// How many of the lines are refused.
     pub fn faults(&self) -> u64
-        ensures { result ≡ faults_in self.now.tells }
+        ensures { result ≡ refusals_in self.now.tells }
     {
         self.tells
             .as_slice()
@@ -194,9 +194,9 @@ impl Gathered {
     fn take(&mut self, alloc: Global, next: Next, aside: &Option<Text>) -> Result<(), AllocError>
         requires { self.old.lines + 1 < 2 ^ 64 }
         ensures taken { OnOk result ((before : ℕ) (old mid new : Option (List ℕ))
-            → IsGathered aside.now before self.old.lines old mid self.old.tells self.old.lists
+            → IsGatheredToNumber aside.now before self.old.lines old mid self.old.tells self.old.lists
             → IsNext mid new next
-            → IsGathered aside.now before self.new.lines old new self.new.tells self.new.lists) }
+            → IsGatheredToNumber aside.now before self.new.lines old new self.new.tells self.new.lists) }
         ensures few { OnOk result (self.new.lines ≤ self.old.lines + 1) }
     {
         match next {
@@ -235,7 +235,7 @@ pub fn gather<R: Read>(
     aside: &Option<Text>,
 ) -> Result<Part, LineFault>
     requires { before ≤ 2 ^ 62 }
-    ensures gathered { IfOk result (λ part. IsGathered aside.now before part.gathered.lines
+    ensures gathered { IfOk result (λ part. IsGatheredToNumber aside.now before part.gathered.lines
         (prepend_known pending.old (R.remaining input.old))
         (prepend_known pending.new (R.remaining input.new))
         part.gathered.tells part.gathered.lists) }

@@ -1,10 +1,10 @@
 //! The words of refusals.
 
 ghost use Rattle.std.specs.Prelude.{◌≡◌, IfOk, string_bytes};
-ghost use Rattle.number_lines.specs.Words.{number_words, words_of};
+ghost use Rattle.number_lines.specs.Words.{number_words, words_of_refusal};
 
 use crate::refusal::LineRefusal;
-use file_reports::ReportFault;
+use event_files::ReportFault;
 use numbers::NumberFault;
 use std::alloc::{AllocError, Global};
 
@@ -31,7 +31,7 @@ fn number_words(alloc: Global, fault: NumberFault) -> Result<String, AllocError>
 
 /// The words of a line's refusal; those of bytes that spell no events are as of a file.
 pub fn words_of(alloc: Global, refusal: LineRefusal) -> Result<String, AllocError>
-    ensures { IfOk result (λ words. string_bytes words ≡ words_of refusal) }
+    ensures { IfOk result (λ words. string_bytes words ≡ words_of_refusal refusal) }
 {
     match refusal {
         LineRefusal::Read(why) => line_intake::words_of(alloc, ReportFault::Read(why)),

@@ -13,12 +13,12 @@ use Rattle.inbox.proofs.SetLemmas.{append_new-append}
 use Rattle.inbox_table.specs.Calls.{KeepEachEffect, joined}
 use Rattle.inbox_table.specs.Rows.{IsInbox}
 use Rattle.inbox_table.specs.declared.fault.TableFault.{TableFault}
-use Rattle.numbers.specs.Counts.{Counts, IsCount}
-use Rattle.numbers.specs.Numbered.{AreBare, AreNumbered, HaveNumbers}
+use Rattle.numbers.specs.Counts.{Counts, IsCountOf}
+use Rattle.numbers.specs.Numbered.{AreBare, AreEachNumbered, HaveNumbers}
 use Rattle.numbers.specs.Numberer.{IsEachOnce, number, taken}
 use Rattle.numbers.proofs.CountLemmas.{rows_stay}
 use Rattle.numbers.proofs.ListLemmas.{stays_once}
-use Rattle.number_table.specs.Calls.{Stands, from}
+use Rattle.number_table.specs.Calls.{StandsNumbered, from}
 use Rattle.number_table.specs.Each.{AnswersEach, AreNumberedEach}
 use Rattle.number_table.proofs.KeepLemmas.{rows_grow}
 use Rattle.number_table.proofs.StandLemmas.{was_clean}
@@ -75,9 +75,9 @@ rows_each base (L ∷ lists) events rows (M ∷ answers) was bare whole each =
     (subst (λ D. AreRows base (taken (taken events L) (joined lists)) D) (sym (taken_joined rows M answers)) later)
 
 -- the lists are kept with their numbers
-pub kept_each : (base : ℕ) (lists : List (List EventValue)) (events rows : List EventValue) (answers : List (List EventValue)) (old new : State) (c k : Counts) (fresh : List ℕ) (C : Trees → Type 0) → Stands base events rows old (Some c) → AllByRecursion AreBare lists
-    → AllByRecursion (AllByRecursion IsEvent) answers → AnswersEach (from base) events lists answers → IsCount (from base) (taken events (joined lists)) k → Survives old new C → (HasCleanDisk new → KeepEachEffect answers old new (Ok fresh))
-    → Stands base (taken events (joined lists)) (append_new key_cmp rows (joined answers)) new (Some k)
+pub kept_each : (base : ℕ) (lists : List (List EventValue)) (events rows : List EventValue) (answers : List (List EventValue)) (old new : State) (c k : Counts) (fresh : List ℕ) (C : Trees → Type 0) → StandsNumbered base events rows old (Some c) → AllByRecursion AreBare lists
+    → AllByRecursion (AllByRecursion IsEvent) answers → AnswersEach (from base) events lists answers → IsCountOf (from base) (taken events (joined lists)) k → Survives old new C → (HasCleanDisk new → KeepEachEffect answers old new (Ok fresh))
+    → StandsNumbered base (taken events (joined lists)) (append_new key_cmp rows (joined answers)) new (Some k)
 kept_each base lists events rows answers old new c k fresh C was bare whole each counts s effect =
     let are = rows_each (from base) lists events rows answers (record { bare = was.bare; once = was.once; numbers = was.numbers; whole = was.whole }) bare whole each in
     record {
@@ -90,8 +90,8 @@ kept_each base lists events rows answers old new c k fresh C was bare whole each
     }
 
 -- the table refused
-pub refused_each : (base : ℕ) (events rows : List EventValue) (answers : List (List EventValue)) (old new : State) (c : Option Counts) (f : TableFault) (C : Trees → Type 0) → Stands base events rows old c → Survives old new C → (HasCleanDisk new → KeepEachEffect answers old new (Err f))
-    → Stands base events rows new None
+pub refused_each : (base : ℕ) (events rows : List EventValue) (answers : List (List EventValue)) (old new : State) (c : Option Counts) (f : TableFault) (C : Trees → Type 0) → StandsNumbered base events rows old c → Survives old new C → (HasCleanDisk new → KeepEachEffect answers old new (Err f))
+    → StandsNumbered base events rows new None
 refused_each base events rows answers old new c f C was s effect = record {
   bare = was.bare;
   once = was.once;
@@ -103,7 +103,7 @@ refused_each base events rows answers old new c f C was s effect = record {
       subst (λ db. IsInbox db rows) (sym (e.same is_open)) (was.table (was_clean old new C s clean) (e.was_open is_open));
 }
 
-pub numbered_more : (lists answers : List (List EventValue)) (L M : List EventValue) → AreNumberedEach lists answers → AreNumbered L M → AreNumberedEach (lists ++ L ∷ []) (answers ++ M ∷ [])
+pub numbered_more : (lists answers : List (List EventValue)) (L M : List EventValue) → AreNumberedEach lists answers → AreEachNumbered L M → AreNumberedEach (lists ++ L ∷ []) (answers ++ M ∷ [])
 numbered_more [] [] L M are one = (one, tt)
 numbered_more [] (N ∷ answers) L M are one = absurd are
 numbered_more (K ∷ lists) [] L M are one = absurd are

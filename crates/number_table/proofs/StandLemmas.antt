@@ -11,12 +11,12 @@ use Rattle.inbox.proofs.OrderLemmas.{key_cmp_total}
 use Rattle.inbox_table.specs.Calls.{KeepEffect}
 use Rattle.inbox_table.specs.Rows.{IsInbox}
 use Rattle.inbox_table.specs.declared.fault.TableFault.{TableFault}
-use Rattle.numbers.specs.Counts.{Counts, IsCount, IsCounted}
+use Rattle.numbers.specs.Counts.{Counts, IsCountOf, IsCountOfRows}
 use Rattle.numbers.specs.Numbered.{AreBare, HaveNumbers}
 use Rattle.numbers.specs.Numberer.{number, taken}
 use Rattle.numbers.proofs.CountLemmas.{rows_stay}
 use Rattle.numbers.proofs.ListLemmas.{stays_once}
-use Rattle.number_table.specs.Calls.{Stands, from}
+use Rattle.number_table.specs.Calls.{StandsNumbered, from}
 use Rattle.number_table.proofs.KeepLemmas.{rows_grow}
 
 -- a disk that is honest in the end was so before
@@ -24,7 +24,7 @@ pub was_clean : (was is : State) (C : Trees → Type 0) → Survives was is C �
 was_clean was is C s clean = let below = s.clean in omega arith
 
 -- what was read and counted
-pub opened : (base : ℕ) (rows : List EventValue) (s : State) (c : Counts) → IsCounted (λ _. base) rows c → (HasCleanDisk s → IsTrue s.is_open → IsInbox s.now rows) → (events : List EventValue) × Stands base events rows s (Some c)
+pub opened : (base : ℕ) (rows : List EventValue) (s : State) (c : Counts) → IsCountOfRows (λ _. base) rows c → (HasCleanDisk s → IsTrue s.is_open → IsInbox s.now rows) → (events : List EventValue) × StandsNumbered base events rows s (Some c)
 opened base rows s c counted table = (
   counted.events,
   record {
@@ -38,11 +38,11 @@ opened base rows s c counted table = (
 )
 
 -- nothing came of a call, and what was counted is given up
-pub given_up : (base : ℕ) (events rows : List EventValue) (s : State) (c : Option Counts) → Stands base events rows s c → Stands base events rows s None
+pub given_up : (base : ℕ) (events rows : List EventValue) (s : State) (c : Option Counts) → StandsNumbered base events rows s c → StandsNumbered base events rows s None
 given_up base events rows s c was = record { bare = was.bare; once = was.once; numbers = was.numbers; whole = was.whole; counts = tt; table = was.table }
 
 -- the table refused
-pub refused : (base : ℕ) (events rows X : List EventValue) (old new : State) (c : Option Counts) (f : TableFault) (C : Trees → Type 0) → Stands base events rows old c → Survives old new C → (HasCleanDisk new → KeepEffect X old new (Err f)) → Stands base events rows new None
+pub refused : (base : ℕ) (events rows X : List EventValue) (old new : State) (c : Option Counts) (f : TableFault) (C : Trees → Type 0) → StandsNumbered base events rows old c → Survives old new C → (HasCleanDisk new → KeepEffect X old new (Err f)) → StandsNumbered base events rows new None
 refused base events rows X old new c f C was s effect = record {
   bare = was.bare;
   once = was.once;
@@ -55,8 +55,8 @@ refused base events rows X old new c f C was s effect = record {
 }
 
 -- the events are kept with their numbers
-pub kept : (base : ℕ) (L events rows X : List EventValue) (old new : State) (c k : Counts) (fresh : ℕ) (C : Trees → Type 0) → Stands base events rows old (Some c) → AreBare L → AllByRecursion IsEvent X
-    → HaveNumbers (number (from base) (taken events L)) L X → IsCount (from base) (taken events L) k → Survives old new C → (HasCleanDisk new → KeepEffect X old new (Ok fresh)) → Stands base (taken events L) (append_new key_cmp rows X) new (Some k)
+pub kept : (base : ℕ) (L events rows X : List EventValue) (old new : State) (c k : Counts) (fresh : ℕ) (C : Trees → Type 0) → StandsNumbered base events rows old (Some c) → AreBare L → AllByRecursion IsEvent X
+    → HaveNumbers (number (from base) (taken events L)) L X → IsCountOf (from base) (taken events L) k → Survives old new C → (HasCleanDisk new → KeepEffect X old new (Ok fresh)) → StandsNumbered base (taken events L) (append_new key_cmp rows X) new (Some k)
 kept base L events rows X old new c k fresh C was bare whole have counts s effect =
     let grown = rows_grow (number (from base) (taken events L)) events rows L X bare whole have (record { numbers = rows_stay (from base) events L rows was.once was.numbers; bare = was.bare; whole = was.whole }) in
     record {

@@ -12,7 +12,7 @@ use Rattle.inbox_table.specs.Calls.{IsSettled, MayTake}
 use Rattle.inbox_table.specs.Opening.{Opens, RejectsOpening}
 use Rattle.inbox_table.specs.Rows.{IsInbox}
 use Rattle.inbox_table.specs.declared.fault.TableFault.{TableFault}
-use Rattle.numbers.specs.Counts.{Counts, IsCount}
+use Rattle.numbers.specs.Counts.{Counts, IsCountOf}
 use Rattle.numbers.specs.Numbered.{AreBare, HaveNumbers}
 use Rattle.numbers.specs.Numberer.{IsEachOnce, number, taken}
 use Rattle.number_table.specs.Fault.{of_table}
@@ -25,30 +25,30 @@ from base source = base
 
 -- the numberer has numbered these events, each text once, in this order, and its table has them
 -- with their numbers as rows; what it counts, where it does, is of them
-pub record Stands (base : ℕ) (events rows : List EventValue) (s : State) (counted : Option Counts)
+pub record StandsNumbered (base : ℕ) (events rows : List EventValue) (s : State) (counted : Option Counts)
     : Type 0 where
   pub bare : AreBare events
   pub once : IsEachOnce events
   pub numbers : HaveNumbers (number (from base) events) events rows
   pub whole : AllByRecursion IsEvent rows
-  pub counts : IfSome counted (IsCount (from base) events)
+  pub counts : IfSome counted (IsCountOf (from base) events)
   pub table : HasCleanDisk s → IsTrue s.is_open → IsInbox s.now rows
 
 -- the events of L, each with its number among all that were numbered then
-abbrev pub Answers : ℕ → List EventValue → List EventValue → List EventValue → Type 0
-Answers base events L answers = HaveNumbers (number (from base) (taken events L)) L answers
+abbrev pub AnswersNumbers : ℕ → List EventValue → List EventValue → List EventValue → Type 0
+AnswersNumbers base events L answers = HaveNumbers (number (from base) (taken events L)) L answers
 
 -- what numbering the events of L does
 pub record NumberEffect (base : ℕ) (L : List EventValue) (old new : State)
     (was is : Option Counts) (result : Result (List EventValue) NumbererFault) : Type 0 where
   -- each event is answered with its number: the one that its text had, else its source's next; and
   -- the table has the new ones behind what there was
-  pub numbers : (events rows : List EventValue) → Stands base events rows old was
-      → IfOk result (λ answers. Answers base events L answers
-      × Stands base (taken events L) (append_new key_cmp rows answers) new is)
+  pub numbers : (events rows : List EventValue) → StandsNumbered base events rows old was
+      → IfOk result (λ answers. AnswersNumbers base events L answers
+      × StandsNumbered base (taken events L) (append_new key_cmp rows answers) new is)
   -- refused, it has numbered what it had
-  pub refused : (events rows : List EventValue) → Stands base events rows old was
-      → OnErr result (Stands base events rows new is)
+  pub refused : (events rows : List EventValue) → StandsNumbered base events rows old was
+      → OnErr result (StandsNumbered base events rows new is)
 
 -- and what that leaves in the database, while the disk gives back what was written
 pub record LeavesNumbers {T : Type 0} (old new : State) (result : Result T NumbererFault)
@@ -62,8 +62,8 @@ pub record LeavesNumbers {T : Type 0} (old new : State) (result : Result T Numbe
 pub record MayNumber (base : ℕ) (L : List EventValue) (was : Option Counts) (old : Database)
     (trees : Trees) : Type 0 where
   pub answers : List EventValue
-  pub numbers : (events : List EventValue) → IfSome was (IsCount (from base) events)
-      → Answers base events L answers
+  pub numbers : (events : List EventValue) → IfSome was (IsCountOf (from base) events)
+      → AnswersNumbers base events L answers
   pub takes : MayTake answers old trees
 
 -- no numberer with this base leaves these rows

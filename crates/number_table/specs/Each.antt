@@ -7,10 +7,10 @@ use Rattle.attributes.specs.Event.{EventValue}
 use Rattle.inbox.specs.KeyOrder.{key_cmp}
 use Rattle.inbox.specs.Ordered.{append_new}
 use Rattle.inbox_table.specs.Calls.{MayTake, joined}
-use Rattle.numbers.specs.Counts.{Counts, IsCount}
-use Rattle.numbers.specs.Numbered.{AreNumbered, HaveNumbers}
+use Rattle.numbers.specs.Counts.{Counts, IsCountOf}
+use Rattle.numbers.specs.Numbered.{AreEachNumbered, HaveNumbers}
 use Rattle.numbers.specs.Numberer.{number, taken}
-use Rattle.number_table.specs.Calls.{Stands, from}
+use Rattle.number_table.specs.Calls.{StandsNumbered, from}
 use Rattle.number_table.specs.declared.fault.NumbererFault.{NumbererFault}
 
 -- the events of each list, with their numbers among all that were numbered by then
@@ -24,7 +24,7 @@ AnswersEach base events _ _ = ⊥
 -- of each list the events with some numbers
 abbrev pub AreNumberedEach : List (List EventValue) → List (List EventValue) → Type 0
 AreNumberedEach [] [] = Unit {0}
-AreNumberedEach (L ∷ lists) (M ∷ answers) = AreNumbered L M × AreNumberedEach lists answers
+AreNumberedEach (L ∷ lists) (M ∷ answers) = AreEachNumbered L M × AreNumberedEach lists answers
 AreNumberedEach _ _ = ⊥
 
 -- what numbering the events of these lists does
@@ -32,18 +32,18 @@ pub record NumberEachEffect (base : ℕ) (lists : List (List EventValue)) (old n
     (was is : Option Counts) (result : Result (List (List EventValue)) NumbererFault) : Type 0 where
   -- each event is answered with its number, one list after the other; and the table has the new
   -- ones behind what there was
-  pub numbers : (events rows : List EventValue) → Stands base events rows old was
+  pub numbers : (events rows : List EventValue) → StandsNumbered base events rows old was
       → IfOk result (λ answers. AnswersEach (from base) events lists answers
-      × Stands base (taken events (joined lists)) (append_new key_cmp rows (joined answers)) new is)
+      × StandsNumbered base (taken events (joined lists)) (append_new key_cmp rows (joined answers)) new is)
   -- refused, it has numbered what it had
-  pub refused : (events rows : List EventValue) → Stands base events rows old was
-      → OnErr result (Stands base events rows new is)
+  pub refused : (events rows : List EventValue) → StandsNumbered base events rows old was
+      → OnErr result (StandsNumbered base events rows new is)
 
 -- these are the trees of a database that has taken the events of the lists with their numbers,
 -- whatever was numbered before
 pub record MayNumberEach (base : ℕ) (lists : List (List EventValue)) (was : Option Counts)
     (old : Database) (trees : Trees) : Type 0 where
   pub answers : List (List EventValue)
-  pub numbers : (events : List EventValue) → IfSome was (IsCount (from base) events)
+  pub numbers : (events : List EventValue) → IfSome was (IsCountOf (from base) events)
       → AnswersEach (from base) events lists answers
   pub takes : MayTake (joined answers) old trees

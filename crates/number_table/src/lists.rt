@@ -5,7 +5,7 @@ ghost use Rattle.std.specs.List.{AllByRecursion};
 ghost use Rattle.attributes.specs.Event.{EventValue};
 ghost use Rattle.attributes.specs.Fault.{IsEvent};
 ghost use Rattle.inbox_table.specs.Calls.{joined};
-ghost use Rattle.numbers.specs.Counts.{IsCount};
+ghost use Rattle.numbers.specs.Counts.{IsCountOf};
 ghost use Rattle.numbers.specs.Numbered.{AreBare};
 ghost use Rattle.numbers.specs.Numberer.{taken};
 ghost use Rattle.number_table.specs.Each.{AnswersEach, AreNumberedEach};
@@ -23,8 +23,8 @@ pub(crate) fn number_lists(
 ) -> Result<List<Batch>, NumberFault>
     requires { AllByRecursion AreBare lists.now }
     ensures numbers { IfOk result (λ answers. (base : List ℕ → ℕ) (A : List EventValue)
-        → IsCount base A counted.old → AnswersEach base A lists.now answers
-        × IsCount base (taken A (joined lists.now)) counted.new) }
+        → IsCountOf base A counted.old → AnswersEach base A lists.now answers
+        × IsCountOf base (taken A (joined lists.now)) counted.new) }
     ensures each { IfOk result (AreNumberedEach lists.now) }
     ensures one_each { IfOk result (λ answers. length answers ≡ length lists.now) }
     ensures events { IfOk result (AllByRecursion (AllByRecursion IsEvent)) }

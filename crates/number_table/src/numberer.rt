@@ -5,7 +5,7 @@ ghost use Rattle.std.specs.List.{AllByRecursion};
 ghost use Rattle.sqlite.specs.Held.{state};
 ghost use Rattle.sqlite.specs.State.{HasCleanDisk, Survives};
 ghost use Rattle.attributes.specs.Event.{EventValue};
-ghost use Rattle.inbox_table.specs.Opening.{MayOpen, Opens};
+ghost use Rattle.inbox_table.specs.Opening.{LeavesOpening, Opens};
 ghost use Rattle.inbox_table.specs.Rows.{IsAnyInbox};
 ghost use Rattle.numbers.specs.Numbered.{AreBare};
 ghost use Rattle.numbers.specs.Refusal.{refusal_from};
@@ -41,7 +41,7 @@ pub struct NotOpened<S: Alter> {
 }
 
 impl<S: Alter + Drop> Numberer<S> {
-    ghost use Rattle.number_table.specs.Calls.{LeavesNumbers, MayNumber, NoneLeaves, NumberEffect, RejectsNumbers, Stands};
+    ghost use Rattle.number_table.specs.Calls.{LeavesNumbers, MayNumber, NoneLeaves, NumberEffect, RejectsNumbers, StandsNumbered};
     ghost use Rattle.number_table.specs.Each.{AreNumberedEach, MayNumberEach, NumberEachEffect};
 
     /// Opens the numberer of a database, with the base that it was made with, or makes one where
@@ -55,17 +55,15 @@ impl<S: Alter + Drop> Numberer<S> {
         ensures opens { IfOk result (λ n. HasCleanDisk (state S.Store n.table.conn)
             → (events rows : List EventValue)
             × Opens (λ _ _. ⊤) (state S.Store conn) (state S.Store n.table.conn) rows
-            × Stands base events rows (state S.Store n.table.conn) n.counted) }
+            × StandsNumbered base events rows (state S.Store n.table.conn) n.counted) }
         ensures base { IfOk result (λ n. n.base ≡ base) }
         ensures rejects { IfErr result (λ n.
             RejectsNumbers (state S.Store conn) (state S.Store n.conn) n.fault) }
         ensures foreign { IfErr result (λ n. n.fault ≡ Foreign → HasCleanDisk (state S.Store n.conn)
             → (rows : List EventValue) → IsAnyInbox (state S.Store conn).now rows
             → NoneLeaves base rows) }
-        ensures crash { IfOk result (λ n. Survives (state S.Store conn)
-            (state S.Store n.table.conn) (MayOpen (state S.Store conn).now)) }
-        ensures crash_refused { IfErr result (λ n. Survives (state S.Store conn)
-            (state S.Store n.conn) (MayOpen (state S.Store conn).now)) }
+        ensures crash { IfOk result (λ n. LeavesOpening (state S.Store conn) (state S.Store n.table.conn)) }
+        ensures crash_refused { IfErr result (λ n. LeavesOpening (state S.Store conn) (state S.Store n.conn)) }
     {
         let loaded = match Table::open_and_load(alloc, conn, &Unwatched) {
             Ok(loaded) => loaded,

@@ -6,7 +6,7 @@ use Rattle.std.proofs.lemmas.Bool.Decides.{nat_tests}
 use Rattle.attributes.specs.Event.{EventValue, attribute_of, text}
 use Rattle.attributes.specs.Fault.{IsEvent, max_text}
 use Rattle.attributes.specs.declared.scalar.Scalar.{Scalar}
-use Rattle.numbers.specs.Numbered.{AreBare, AreNumbered, HasNumber, IsBare}
+use Rattle.numbers.specs.Numbered.{AreBare, AreEachNumbered, HasNumber, IsBare}
 use Rattle.numbers.specs.Refusal.{refusal_at, refusal_from}
 use Rattle.numbers.specs.declared.fault.NumberFault.{NumberFault}
 
@@ -58,7 +58,7 @@ bare_in [] i e a h = absurd (cc)
 bare_in (x ∷ es) zero e a h = let same : x ≡ e = cc in subst IsBare same a.0
 bare_in (x ∷ es) (suc i) e a h = bare_in es i e a.1 h
 
-pub numbered_more : (L X : List EventValue) (e x : EventValue) → AreNumbered L X → (n : ℕ) × HasNumber n e x → AreNumbered (L ++ e ∷ []) (X ++ x ∷ [])
+pub numbered_more : (L X : List EventValue) (e x : EventValue) → AreEachNumbered L X → (n : ℕ) × HasNumber n e x → AreEachNumbered (L ++ e ∷ []) (X ++ x ∷ [])
 numbered_more [] [] e x are one = (one, tt)
 numbered_more [] (y ∷ X) e x are one = absurd are
 numbered_more (d ∷ L) [] e x are one = absurd are

@@ -16,7 +16,7 @@ use Rattle.inbox.specs.Ordered.{has}
 use Rattle.inbox.proofs.OrderLemmas.{key_cmp_total}
 use Rattle.inbox.proofs.ReadLemmas.{take_next}
 use Rattle.inbox.proofs.SetLemmas.{append_new-append}
-use Rattle.numbers.specs.Counts.{Counts, IsCount, IsCounted, counted, next}
+use Rattle.numbers.specs.Counts.{Counts, IsCountOf, IsCountOfRows, counted, next}
 use Rattle.numbers.specs.Numbered.{AreBare, HasNumber, HaveNumbers, IsBare}
 use Rattle.numbers.specs.Numberer.{IsEachOnce, is_of_source, number, of_source, taken, up_to}
 use Rattle.numbers.proofs.BatchLemmas.{all_more}
@@ -92,27 +92,27 @@ new_number base A e h =
 some_is : (m n : ℕ) → Some m ≡ Some n → m ≡ n
 some_is m n h = cc
 
-pub found_step : (base : List ℕ → ℕ) (A : List EventValue) (c : Counts) (e : EventValue) (n : ℕ) → IsEvent e → value_at (text e) c.numbers ≡ Some n → IsCount base A c
-    → (n ≡ number base (taken A (e ∷ [])) e) × IsCount base (taken A (e ∷ [])) c
+pub found_step : (base : List ℕ → ℕ) (A : List EventValue) (c : Counts) (e : EventValue) (n : ℕ) → IsEvent e → value_at (text e) c.numbers ≡ Some n → IsCountOf base A c
+    → (n ≡ number base (taken A (e ∷ [])) e) × IsCountOf base (taken A (e ∷ [])) c
 found_step base A c e n event found counts = by (has key_cmp A e) refl (sym (counts.numbers e event) ∙ found)
   where
-    by : (b : Bool) → has key_cmp A e ≡ b → (if b then Some (number base A e) else None) ≡ Some n → (n ≡ number base (taken A (e ∷ [])) e) × IsCount base (taken A (e ∷ [])) c
+    by : (b : Bool) → has key_cmp A e ≡ b → (if b then Some (number base A e) else None) ≡ Some n → (n ≡ number base (taken A (e ∷ [])) e) × IsCountOf base (taken A (e ∷ [])) c
     by true h is =
         let same : taken A (e ∷ []) ≡ A = ap (λ b. if b then A else A ++ e ∷ []) h in
-        (sym (some_is _ n is) ∙ ap (λ T. number base T e) (sym same), subst (λ T. IsCount base T c) (sym same) counts)
+        (sym (some_is _ n is) ∙ ap (λ T. number base T e) (sym same), subst (λ T. IsCountOf base T c) (sym same) counts)
     by false h is = absurd (cc)
 
-pub is_new : (base : List ℕ → ℕ) (A : List EventValue) (c : Counts) (e : EventValue) → IsEvent e → value_at (text e) c.numbers ≡ None → IsCount base A c → has key_cmp A e ≡ false
+pub is_new : (base : List ℕ → ℕ) (A : List EventValue) (c : Counts) (e : EventValue) → IsEvent e → value_at (text e) c.numbers ≡ None → IsCountOf base A c → has key_cmp A e ≡ false
 is_new base A c e event none counts = by (has key_cmp A e) refl (sym (counts.numbers e event) ∙ none)
   where
     by : (b : Bool) → has key_cmp A e ≡ b → (if b then Some (number base A e) else None) ≡ None → has key_cmp A e ≡ false
     by true h is = absurd (cc)
     by false h is = h
 
-pub next_is : (base : List ℕ → ℕ) (A : List EventValue) (c : Counts) (e : EventValue) → IsEvent e → value_at (text e) c.numbers ≡ None → IsCount base A c → next c (source_of e) ≡ number base (taken A (e ∷ [])) e
+pub next_is : (base : List ℕ → ℕ) (A : List EventValue) (c : Counts) (e : EventValue) → IsEvent e → value_at (text e) c.numbers ≡ None → IsCountOf base A c → next c (source_of e) ≡ number base (taken A (e ∷ [])) e
 next_is base A c e event none counts = ap suc (counts.last (source_of e)) ∙ sym (new_number base A e (is_new base A c e event none counts))
 
-module _ (base : List ℕ → ℕ) (A : List EventValue) (c : Counts) (e : EventValue) (event : IsEvent e) (none : value_at (text e) c.numbers ≡ None) (counts : IsCount base A c) where
+module _ (base : List ℕ → ℕ) (A : List EventValue) (c : Counts) (e : EventValue) (event : IsEvent e) (none : value_at (text e) c.numbers ≡ None) (counts : IsCountOf base A c) where
   abbrev T : List EventValue
   T = taken A (e ∷ [])
 
@@ -176,7 +176,7 @@ module _ (base : List ℕ → ℕ) (A : List EventValue) (c : Counts) (e : Event
           let long : length (of_source s T) ≡ length (of_source s A) + 0 = count ∙ ap (λ (b : Bool). length (of_source s A) + (if b then 1 else 0)) other in
           ap (λ o. unwrap_or o c.base) (elsewhere (source_of e) n s h c.last) ∙ counts.last s ∙ omega (arith, long)
 
-  pub new_step : IsCount base (taken A (e ∷ [])) (counted c (text e) (source_of e))
+  pub new_step : IsCountOf base (taken A (e ∷ [])) (counted c (text e) (source_of e))
   new_step = record { numbers = new_numbers; last = new_last }
 
 -- ---- a batch
@@ -194,8 +194,8 @@ have_more m (f ∷ P) [] e x h one = absurd h
 have_more m (f ∷ P) (y ∷ X) e x h one = (h.0, have_more m P X e x h.1 one)
 
 pub turn_step : (base : List ℕ → ℕ) (A L X : List EventValue) (i n : ℕ) (e x : EventValue) (c : Counts) → slice_get L i ≡ Some e
-    → HaveNumbers (number base (taken A (take i L))) (take i L) X → n ≡ number base (taken (taken A (take i L)) (e ∷ [])) e → IsCount base (taken (taken A (take i L)) (e ∷ [])) c → HasNumber n e x
-    → HaveNumbers (number base (taken A (take (i + 1) L))) (take (i + 1) L) (X ++ x ∷ []) × IsCount base (taken A (take (i + 1) L)) c
+    → HaveNumbers (number base (taken A (take i L))) (take i L) X → n ≡ number base (taken (taken A (take i L)) (e ∷ [])) e → IsCountOf base (taken (taken A (take i L)) (e ∷ [])) c → HasNumber n e x
+    → HaveNumbers (number base (taken A (take (i + 1) L))) (take (i + 1) L) (X ++ x ∷ []) × IsCountOf base (taken A (take (i + 1) L)) c
 turn_step base A L X i n e x c at have is counts one =
     let P = take i L in
     let T = taken A P in
@@ -203,14 +203,14 @@ turn_step base A L X i n e x c at have is counts one =
     let all : taken A (take (i + 1) L) ≡ taken T (e ∷ []) = ap (taken A) more ∙ append_new-append key_cmp_total A P (e ∷ []) in
     let before = all_map (λ p. has key_cmp T p ≡ true) (λ p. number base T p ≡ number base (taken T (e ∷ [])) p) (λ p h. sym (number_stays base T (e ∷ []) p h)) P (all_there key_cmp_total A P) in
     let had = have_more (number base (taken T (e ∷ []))) P X e x (have_same (number base T) (number base (taken T (e ∷ []))) P X before have) (subst (λ k. HasNumber k e x) is one) in
-    (subst (λ Q. HaveNumbers (number base Q) (take (i + 1) L) (X ++ x ∷ [])) (sym all) (subst (λ Q. HaveNumbers (number base (taken T (e ∷ []))) Q (X ++ x ∷ [])) (sym more) had), subst (λ Q. IsCount base Q c) (sym all) counts)
+    (subst (λ Q. HaveNumbers (number base Q) (take (i + 1) L) (X ++ x ∷ [])) (sym all) (subst (λ Q. HaveNumbers (number base (taken T (e ∷ []))) Q (X ++ x ∷ [])) (sym more) had), subst (λ Q. IsCountOf base Q c) (sym all) counts)
 
-pub too_many : (base : List ℕ → ℕ) (A : List EventValue) (c : Counts) (e : EventValue) → IsEvent e → value_at (text e) c.numbers ≡ None → max_sequence < next c (source_of e) → IsCount base A c → max_sequence < number base (taken A (e ∷ [])) e
+pub too_many : (base : List ℕ → ℕ) (A : List EventValue) (c : Counts) (e : EventValue) → IsEvent e → value_at (text e) c.numbers ≡ None → max_sequence < next c (source_of e) → IsCountOf base A c → max_sequence < number base (taken A (e ∷ [])) e
 too_many base A c e event none over counts = subst (λ n. max_sequence < n) (next_is base A c e event none counts) over
 
 -- ---- rows that are counted
 
-pub nothing_counted : (b : ℕ) → IsCounted (λ _. b) [] (record { numbers = []; last = []; base = b })
+pub nothing_counted : (b : ℕ) → IsCountOfRows (λ _. b) [] (record { numbers = []; last = []; base = b })
 nothing_counted b = record {
   events = [];
   bare = tt;
@@ -224,9 +224,9 @@ bare_more : (A : List EventValue) (e : EventValue) → AreBare A → IsBare e �
 bare_more [] e a is = (is, tt)
 bare_more (x ∷ A) e a is = (a.0, bare_more A e a.1 is)
 
-row_step : (base : List ℕ → ℕ) (rows : List EventValue) (n : ℕ) (e x : EventValue) (c k : Counts) → IsCounted base rows c → IsEvent x → IsBare e → HasNumber n e x
-    → ((b : List ℕ → ℕ) (A : List EventValue) → IsCount b A c → (taken A (e ∷ []) ≡ A ++ e ∷ []) × (n ≡ number b (taken A (e ∷ [])) e) × IsCount b (taken A (e ∷ [])) k)
-    → IsCounted base (rows ++ x ∷ []) k
+row_step : (base : List ℕ → ℕ) (rows : List EventValue) (n : ℕ) (e x : EventValue) (c k : Counts) → IsCountOfRows base rows c → IsEvent x → IsBare e → HasNumber n e x
+    → ((b : List ℕ → ℕ) (A : List EventValue) → IsCountOf b A c → (taken A (e ∷ []) ≡ A ++ e ∷ []) × (n ≡ number b (taken A (e ∷ [])) e) × IsCountOf b (taken A (e ∷ [])) k)
+    → IsCountOfRows base (rows ++ x ∷ []) k
 row_step base rows n e x c k was event is one step =
     let A = was.events in
     let T = taken A (e ∷ []) in
@@ -247,9 +247,9 @@ row_step base rows n e x c k was event is one step =
     each_in = subst (λ B. AllByRecursion (λ a. has key_cmp B a ≡ true) was.events) was.once (all_there key_cmp_total [] was.events)
 
 -- the row that is taken from the front stands behind those before
-pub next_row : (base : List ℕ → ℕ) (done rest rows all : List EventValue) (n : ℕ) (e x : EventValue) (c k : Counts) → rows ≡ x ∷ rest → done ++ rows ≡ all → IsCounted base done c → IsEvent x → IsBare e → HasNumber n e x
-    → ((b : List ℕ → ℕ) (A : List EventValue) → IsCount b A c → (taken A (e ∷ []) ≡ A ++ e ∷ []) × (n ≡ number b (taken A (e ∷ [])) e) × IsCount b (taken A (e ∷ [])) k)
-    → (so_far : List EventValue) × (so_far ++ rest ≡ all) × IsCounted base so_far k
+pub next_row : (base : List ℕ → ℕ) (done rest rows all : List EventValue) (n : ℕ) (e x : EventValue) (c k : Counts) → rows ≡ x ∷ rest → done ++ rows ≡ all → IsCountOfRows base done c → IsEvent x → IsBare e → HasNumber n e x
+    → ((b : List ℕ → ℕ) (A : List EventValue) → IsCountOf b A c → (taken A (e ∷ []) ≡ A ++ e ∷ []) × (n ≡ number b (taken A (e ∷ [])) e) × IsCountOf b (taken A (e ∷ [])) k)
+    → (so_far : List EventValue) × (so_far ++ rest ≡ all) × IsCountOfRows base so_far k
 next_row base done rest rows all n e x c k is h was event bare one step =
     (done ++ x ∷ [], shift done ∙ ap (λ l. done ++ l) (sym is) ∙ h, row_step base done n e x c k was event bare one step)
   where

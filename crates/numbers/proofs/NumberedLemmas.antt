@@ -17,7 +17,7 @@ use Rattle.attributes.specs.Bytes.{byte_cmp}
 use Rattle.attributes.specs.Character.{is_filled, is_name}
 use Rattle.attributes.specs.Event.{EventValue, content_of, event_of, scalars_of, tree_content, words_of, words_or_empty}
 use Rattle.attributes.specs.Fault.{IsCarried, IsEvent, first_failed, given_all, given_of, is_allowed, is_attribute, is_required, is_time, is_version, member_fault, offered_of, parts_of, payload_fault}
-use Rattle.attributes.specs.Members.{InOrder, value_at, with_value}
+use Rattle.attributes.specs.Members.{AreNamesInOrder, value_at, with_value}
 use Rattle.attributes.specs.Sequence.{sequence_of}
 use Rattle.attributes.specs.declared.content.Content.{Content}
 use Rattle.attributes.specs.declared.content.Content.TheVariants as content
@@ -193,7 +193,7 @@ keys_with {X} name x (m ∷ ms) = by (byte_cmp name m.0) (keys_with name x ms)
     by Equal f = refl
     by Greater f = ap (λ l. m.0 ∷ l) f
 
-pub in_order : (e : EventValue) (t : List ℕ) → IsEvent e → InOrder (with_sequence t e).attributes
+pub in_order : (e : EventValue) (t : List ℕ) → IsEvent e → AreNamesInOrder (with_sequence t e).attributes
 in_order e t h = subst (IsStrictlySortedBy byte_cmp) (sym (keys_with key (scalar.Words t) e.attributes)) (sorted-insert_key nat_list_cmp_total (keys_of e.attributes) key h.in_order)
 
 pub numbered_parts : NumberedParts

@@ -8,7 +8,7 @@ use Rattle.inbox.specs.KeyOrder.{key_cmp}
 use Rattle.inbox.specs.Ordered.{append_new, has}
 use Rattle.inbox.proofs.OrderLemmas.{key_cmp_total}
 use Rattle.inbox.proofs.SetLemmas.{append_new-append}
-use Rattle.numbers.specs.Counts.{Counts, IsCount, IsCounted}
+use Rattle.numbers.specs.Counts.{Counts, IsCountOf, IsCountOfRows}
 use Rattle.numbers.specs.Numbered.{AreBare, HasNumber, HaveNumbers, IsBare}
 use Rattle.numbers.specs.Numberer.{IsEachOnce, number, of_source, taken, up_to}
 use Rattle.numbers.proofs.CountLemmas.{grown_by}
@@ -17,7 +17,7 @@ use Rattle.numbers.proofs.NumberLemmas.{up_to_stays}
 use Rattle.numbers.proofs.NumberedLemmas.{numbered_events}
 
 -- a text that has a number has been taken
-pub is_old : (base : List ℕ → ℕ) (A : List EventValue) (c : Counts) (e : EventValue) (n : ℕ) → IsEvent e → value_at (text e) c.numbers ≡ Some n → IsCount base A c → has key_cmp A e ≡ true
+pub is_old : (base : List ℕ → ℕ) (A : List EventValue) (c : Counts) (e : EventValue) (n : ℕ) → IsEvent e → value_at (text e) c.numbers ≡ Some n → IsCountOf base A c → has key_cmp A e ≡ true
 is_old base A c e n event found counts = by (has key_cmp A e) refl (sym (counts.numbers e event) ∙ found)
   where
     by : (b : Bool) → has key_cmp A e ≡ b → (if b then Some (number base A e) else None) ≡ Some n → has key_cmp A e ≡ true
@@ -62,8 +62,8 @@ bare_split [] R e a = (tt, a.0)
 bare_split (x ∷ P) R e a = let r = bare_split P R e a.1 in ((a.0, r.0), r.1)
 
 -- where the next row isn't that of an event with its number, no numberer leaves the rows
-pub no_numberer : (base : List ℕ → ℕ) (done rest rows all : List EventValue) (x : EventValue) (c : Counts) → rows ≡ x ∷ rest → done ++ rows ≡ all → IsCounted base done c
-    → ((e : EventValue) (n : ℕ) → IsBare e → HasNumber n e x → (b : List ℕ → ℕ) (A : List EventValue) → IsCount b A c → (has key_cmp A e ≡ true) ⊎ (n ≢ number b (taken A (e ∷ [])) e))
+pub no_numberer : (base : List ℕ → ℕ) (done rest rows all : List EventValue) (x : EventValue) (c : Counts) → rows ≡ x ∷ rest → done ++ rows ≡ all → IsCountOfRows base done c
+    → ((e : EventValue) (n : ℕ) → IsBare e → HasNumber n e x → (b : List ℕ → ℕ) (A : List EventValue) → IsCountOf b A c → (has key_cmp A e ≡ true) ⊎ (n ≢ number b (taken A (e ∷ [])) e))
     → (events : List EventValue) → AreBare events → IsEachOnce events → HaveNumbers (number base events) events all → ⊥
 no_numberer base done rest rows all x c is h was refused events bare once have =
     let m = number base events in

@@ -29,7 +29,7 @@ counted c t source = record c {
 
 -- they are those of the list: each text of it has its number, and no other text; and each source
 -- has as many numbers behind its base as events
-pub record IsCount (base : List ℕ → ℕ) (A : List EventValue) (c : Counts) : Type 0 where
+pub record IsCountOf (base : List ℕ → ℕ) (A : List EventValue) (c : Counts) : Type 0 where
   pub numbers : (e : EventValue) → IsEvent e → value_at (text e) c.numbers
       ≡ (if has key_cmp A e then Some (number base A e) else None)
   pub last : (source : List ℕ) → unwrap_or (value_at source c.last) c.base
@@ -37,10 +37,10 @@ pub record IsCount (base : List ℕ → ℕ) (A : List EventValue) (c : Counts) 
 
 -- they are those of a list of distinct events without numbers, whose events with their numbers are
 -- these
-pub record IsCounted (base : List ℕ → ℕ) (rows : List EventValue) (c : Counts) : Type 0 where
+pub record IsCountOfRows (base : List ℕ → ℕ) (rows : List EventValue) (c : Counts) : Type 0 where
   pub events : List EventValue
   pub bare : AreBare events
   pub once : IsEachOnce events
   pub numbers : HaveNumbers (number base events) events rows
   pub whole : AllByRecursion IsEvent rows
-  pub counts : IsCount base events c
+  pub counts : IsCountOf base events c

@@ -6,7 +6,7 @@ use Rattle.std.specs.Option.{option_or}
 use Rattle.serde_json.specs.Data.{put, string}
 use Rattle.attributes.specs.Event.{EventValue, OfferValue, attribute_of, event_of, id_of, members_of, source_of, text}
 use Rattle.attributes.specs.Fault.{IsEvent, fault, max_text, member_fault, parts_of, payload_fault}
-use Rattle.attributes.specs.Members.{InOrder, with_value}
+use Rattle.attributes.specs.Members.{AreNamesInOrder, with_value}
 use Rattle.attributes.specs.Sequence.{number_of, sequence_of}
 use Rattle.attributes.specs.declared.scalar.Scalar.TheVariants as scalar
 use Rattle.attributes.specs.declared.scalar.Given.TheVariants as given
@@ -50,10 +50,10 @@ HaveNumbers n (e ∷ es) (x ∷ xs) = HasNumber (n e) e x × HaveNumbers n es xs
 HaveNumbers n _ _ = ⊥
 
 -- each event of the second list is that of the first with some number
-abbrev pub AreNumbered : List EventValue → List EventValue → Type 0
-AreNumbered [] [] = ⊤
-AreNumbered (e ∷ es) (x ∷ xs) = ((n : ℕ) × HasNumber n e x) × AreNumbered es xs
-AreNumbered _ _ = ⊥
+abbrev pub AreEachNumbered : List EventValue → List EventValue → Type 0
+AreEachNumbered [] [] = ⊤
+AreEachNumbered (e ∷ es) (x ∷ xs) = ((n : ℕ) × HasNumber n e x) × AreEachNumbered es xs
+AreEachNumbered _ _ = ⊥
 
 -- what an event with its number is: that number, and all else as it was
 pub record NumberedEvents : Type 0 where
@@ -77,7 +77,7 @@ pub record NumberedParts : Type 0 where
   pub faultless : (e : EventValue) (t : List ℕ) (n : ℕ) → IsEvent e → sequence_of t ≡ Some n
       → option_or (member_fault (offer_with t (parts_of e)).members)
       (payload_fault (offer_with t (parts_of e)).offered) ≡ None
-  pub in_order : (e : EventValue) (t : List ℕ) → IsEvent e → InOrder (with_sequence t e).attributes
+  pub in_order : (e : EventValue) (t : List ℕ) → IsEvent e → AreNamesInOrder (with_sequence t e).attributes
 
 -- its text is 34 bytes longer: ,"sequence":"00000000000000000001"
 abbrev pub IsLonger : Type 0

@@ -5,7 +5,7 @@ ghost use Rattle.attributes.specs.Event.{EventValue};
 ghost use Rattle.attributes.specs.Fault.{IsEvent};
 ghost use Rattle.inbox.specs.KeyOrder.{key_cmp};
 ghost use Rattle.inbox.specs.Ordered.{has};
-ghost use Rattle.numbers.specs.Counts.{IsCount, IsCounted};
+ghost use Rattle.numbers.specs.Counts.{IsCountOf, IsCountOfRows};
 ghost use Rattle.numbers.specs.Numbered.{AreBare, HasNumber, HaveNumbers, IsBare};
 ghost use Rattle.numbers.specs.Numberer.{IsEachOnce, number, taken};
 
@@ -17,12 +17,12 @@ use std::alloc::{AllocError, Global};
 /// Counts the event, where its text has no number yet and this is its source's next one.
 fn count(counted: &mut Counted, event: &Event, own: Sequence) -> Result<bool, AllocError>
     ensures next { IfOk result (λ is_next. IsTrue is_next → (base : List ℕ → ℕ)
-        (A : List EventValue) → IsCount base A counted.old
+        (A : List EventValue) → IsCountOf base A counted.old
         → (taken A (event.now ∷ []) ≡ A ++ event.now ∷ [])
         × (own ≡ number base (taken A (event.now ∷ [])) event.now)
-        × IsCount base (taken A (event.now ∷ [])) counted.new) }
+        × IsCountOf base (taken A (event.now ∷ [])) counted.new) }
     ensures refused { IfOk result (λ is_next. IsFalse is_next → (base : List ℕ → ℕ)
-        (A : List EventValue) → IsCount base A counted.old → (has key_cmp A event.now ≡ true)
+        (A : List EventValue) → IsCountOf base A counted.old → (has key_cmp A event.now ≡ true)
         ⊎ (own ≢ number base (taken A (event.now ∷ [])) event.now)) }
 {
     let own = own.number();
@@ -44,11 +44,11 @@ fn count_row(alloc: Global, counted: &mut Counted, row: &Sequenced) -> Result<bo
     ensures event { IsEvent row.now }
     ensures counts { IfOk result (λ is_next. IsTrue is_next → (e : EventValue) × (n : ℕ) × IsBare e
         × HasNumber n e row.now × ((base : List ℕ → ℕ) (A : List EventValue)
-        → IsCount base A counted.old → (taken A (e ∷ []) ≡ A ++ e ∷ [])
-        × (n ≡ number base (taken A (e ∷ [])) e) × IsCount base (taken A (e ∷ [])) counted.new)) }
+        → IsCountOf base A counted.old → (taken A (e ∷ []) ≡ A ++ e ∷ [])
+        × (n ≡ number base (taken A (e ∷ [])) e) × IsCountOf base (taken A (e ∷ [])) counted.new)) }
     ensures refused { IfOk result (λ is_next. IsFalse is_next → (e : EventValue) (n : ℕ) → IsBare e
         → HasNumber n e row.now → (base : List ℕ → ℕ) (A : List EventValue)
-        → IsCount base A counted.old
+        → IsCountOf base A counted.old
         → (has key_cmp A e ≡ true) ⊎ (n ≢ number base (taken A (e ∷ [])) e)) }
 {
     let found = bare(alloc, row)?;
@@ -62,7 +62,7 @@ fn count_row(alloc: Global, counted: &mut Counted, row: &Sequenced) -> Result<bo
 /// event with its source's next number, and none of them twice; none only where no numberer leaves
 /// them. Each goes as soon as it is counted. Time and memory in proportion to them.
 pub fn count_all(alloc: Global, base: u64, rows: Batch) -> Result<Option<Counted>, AllocError>
-    ensures counted { IfOk result (λ o. IfSome o (IsCounted (λ _. base) rows)) }
+    ensures counted { IfOk result (λ o. IfSome o (IsCountOfRows (λ _. base) rows)) }
     ensures none { IfOk result (λ o. IfNone o ((events : List EventValue) → AreBare events
         → IsEachOnce events → HaveNumbers (number (λ _. base) events) events rows → ⊥)) }
 {

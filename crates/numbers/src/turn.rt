@@ -5,8 +5,8 @@ ghost use Rattle.std.specs.List.{AllByRecursion};
 ghost use Rattle.attributes.specs.Event.{EventValue};
 ghost use Rattle.attributes.specs.Fault.{IsEvent};
 ghost use Rattle.attributes.specs.Sequence.{max_sequence};
-ghost use Rattle.numbers.specs.Counts.{IsCount};
-ghost use Rattle.numbers.specs.Numbered.{AreBare, AreNumbered, HaveNumbers};
+ghost use Rattle.numbers.specs.Counts.{IsCountOf};
+ghost use Rattle.numbers.specs.Numbered.{AreBare, AreEachNumbered, HaveNumbers};
 ghost use Rattle.numbers.specs.Numberer.{number, taken};
 ghost use Rattle.numbers.specs.declared.fault.NumberFault.TheVariants.{Full, OutOfMemory};
 
@@ -20,10 +20,10 @@ use std::alloc::Global;
 /// is counted then.
 fn number_of(counted: &mut Counted, index: u64, event: &Event) -> Result<Sequence, NumberFault>
     ensures counts { IfOk result (λ n. (base : List ℕ → ℕ) (A : List EventValue)
-        → IsCount base A counted.old → (n ≡ number base (taken A (event.now ∷ [])) event.now)
-        × IsCount base (taken A (event.now ∷ [])) counted.new) }
+        → IsCountOf base A counted.old → (n ≡ number base (taken A (event.now ∷ [])) event.now)
+        × IsCountOf base (taken A (event.now ∷ [])) counted.new) }
     ensures refused { IfErr result (λ f. (f ≡ OutOfMemory) ⊎ ((f ≡ Full index)
-        × ((base : List ℕ → ℕ) (A : List EventValue) → IsCount base A counted.old
+        × ((base : List ℕ → ℕ) (A : List EventValue) → IsCountOf base A counted.old
         → max_sequence < number base (taken A (event.now ∷ [])) event.now))) }
 {
     if let Some(number) = counted.number_of(event.text()) {
@@ -48,10 +48,10 @@ pub fn number_all(
 ) -> Result<Batch, NumberFault>
     requires { AreBare events.now }
     ensures numbers { IfOk result (λ batch. (base : List ℕ → ℕ) (A : List EventValue)
-        → IsCount base A counted.old
+        → IsCountOf base A counted.old
         → HaveNumbers (number base (taken A events.now)) events.now batch
-        × IsCount base (taken A events.now) counted.new) }
-    ensures each { IfOk result (AreNumbered events.now) }
+        × IsCountOf base (taken A events.now) counted.new) }
+    ensures each { IfOk result (AreEachNumbered events.now) }
     ensures events { IfOk result (AllByRecursion IsEvent) }
     ensures refused { IfErr result (λ f. (f ≡ OutOfMemory) ⊎ ((i : ℕ) × (f ≡ Full i))) }
 {

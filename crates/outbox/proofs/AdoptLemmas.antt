@@ -19,9 +19,9 @@ use Rattle.sqlite.proofs.Callers.{reads_as, one_permutation}
 use Rattle.sqlite_schema.specs.declared.schema.Schema.{Schema}
 use Rattle.outbox.specs.Order.{Accepted}
 use Rattle.database_layout.specs.Tables.{service, orders, outbox}
-use Rattle.outbox.specs.Layout.{schema_in, first_tree}
+use Rattle.outbox.specs.Layout.{schema_in_layout, first_tree}
 use Rattle.outbox.specs.Service.{service_row, order_row, outbox_rows, AreOrders}
-use Rattle.outbox.specs.steps.Change.{shown_row, shown_rows, shown_service, ShowOrders}
+use Rattle.outbox.specs.steps.Change.{stored_row, stored_rows, shown_service, ShowOrders}
 use Rattle.outbox.specs.Layout.{ServiceLayout}
 use Rattle.outbox.proofs.StepLemmas.{has_permuted}
 use Rattle.outbox.proofs.LayoutLemmas.{service_passes, orders_passes, outbox_passes, no_overlay}
@@ -80,27 +80,27 @@ all_whole : (s : Schema) (t : ℕ) (db : Trees) (rows : List Row) → AllByRecur
 all_whole s tree db [] t p = refl
 all_whole s tree db (r ∷ rows) t p = ap₂ ◌∷◌ (whole s tree db r t.0 p.0) (all_whole s tree db rows t.1 p.1)
 
-unshown : (n : ℕ) (commands : List Accepted) → map unshow (shown_rows n commands) ≡ outbox_rows n commands
+unshown : (n : ℕ) (commands : List Accepted) → map unshow (stored_rows n commands) ≡ outbox_rows n commands
 unshown n [] = refl
-unshown n (c ∷ commands) = ap (λ rows. unshow (shown_row n c) ∷ rows) (unshown (suc n) commands)
+unshown n (c ∷ commands) = ap (λ rows. unshow (stored_row n c) ∷ rows) (unshown (suc n) commands)
 
 outs : (lost : Value) (db : Trees) (rows : List Row) → map (λ (o : Output). o.1) (map (output (all_rows_query 0)) (flat_map (λ r. matches_as lost db [] end ([] ∷ r ∷ [])) rows)) ≡ map show rows
 outs lost db [] = refl
 outs lost db (r ∷ rows) = ap (λ x. show r ∷ x) (outs lost db rows)
 
-pub adopts_rows : (old last : State) (l : ServiceLayout) (n : ℕ) (commands : List Accepted) → old.now.schema ≡ schema_in l → IsDatabase old.now → Shown all_rows_text [] old last (shown_rows n commands)
+pub adopts_rows : (old last : State) (l : ServiceLayout) (n : ℕ) (commands : List Accepted) → old.now.schema ≡ schema_in_layout l → IsDatabase old.now → Shown all_rows_text [] old last (stored_rows n commands)
     → IsPermutation (outbox_rows n commands) (old.now.trees (suc (suc (first_tree l))))
 adopts_rows old last l n commands has sound h =
     let db = old.now.trees in
-    let rows = shown_rows n commands in
-    let read = reads_as all_rows_text [] old last (schema_in l) has _ (all_rows_is l).0 (all_rows_is l).1 (all_rows_is l).2 rows h in
+    let rows = stored_rows n commands in
+    let read = reads_as all_rows_text [] old last (schema_in_layout l) has _ (all_rows_is l).0 (all_rows_is l).1 (all_rows_is l).2 rows h in
     let a : IsAnswerAs Null (all_rows_query (suc (suc (first_tree l)))) (overlay db []) [] rows = read.answer Null in
     let kept = a.distinct ∙ ap (map (output (all_rows_query (suc (suc (first_tree l)))))) (a.grouped ∙ ap (λ rows. flat_map (λ r. matches_as Null (overlay db []) [] end ([] ∷ r ∷ [])) rows) (no_overlay db (suc (suc (first_tree l))))) in
     let shown : map (λ (o : Output). o.1) a.kept ≡ map show (db (suc (suc (first_tree l)))) = ap (map (λ (o : Output). o.1)) kept ∙ outs Null (overlay db []) (db (suc (suc (first_tree l)))) in
     let cut : IsPermutation (map show (db (suc (suc (first_tree l))))) rows =
     subst (λ x. IsPermutation x rows) shown (subst (IsPermutation (map (λ (o : Output). o.1) a.kept)) (sym a.shown) (IsPermutation-map (λ (o : Output). o.1) a.kept a.ordered a.same)) in
-    let obeys : Obeys (schema_in l) db = subst (λ s. Obeys s db) has sound.obeys in
-    let back = all_whole (schema_in l) (suc (suc (first_tree l))) db (db (suc (suc (first_tree l)))) (outbox_passes db Datatype l obeys) (outbox_passes db NotNull l obeys) in
+    let obeys : Obeys (schema_in_layout l) db = subst (λ s. Obeys s db) has sound.obeys in
+    let back = all_whole (schema_in_layout l) (suc (suc (first_tree l))) db (db (suc (suc (first_tree l)))) (outbox_passes db Datatype l obeys) (outbox_passes db NotNull l obeys) in
     let stored = subst (λ x. IsPermutation x (map unshow rows)) back (IsPermutation-map unshow _ _ cut) in
     IsPermutation-sym _ _ (subst (IsPermutation (db (suc (suc (first_tree l))))) (unshown n commands) stored)
 
@@ -128,18 +128,18 @@ outs_order : (lost : Value) (db : Trees) (rows : List Row) → map (λ (o : Outp
 outs_order lost db [] = refl
 outs_order lost db (r ∷ rows) = ap (λ x. show_order r ∷ x) (outs_order lost db rows)
 
-pub adopts_orders : (old last : State) (l : ServiceLayout) (rows : List Row) (commands : List Accepted) → old.now.schema ≡ schema_in l → IsDatabase old.now → Shown all_orders_text [] old last rows → ShowOrders rows commands
+pub adopts_orders : (old last : State) (l : ServiceLayout) (rows : List Row) (commands : List Accepted) → old.now.schema ≡ schema_in_layout l → IsDatabase old.now → Shown all_orders_text [] old last rows → ShowOrders rows commands
     → AreOrders (old.now.trees (suc (first_tree l))) commands
 adopts_orders old last l rows commands has sound h told =
     let db = old.now.trees in
-    let read = reads_as all_orders_text [] old last (schema_in l) has _ (all_orders_is l).0 (all_orders_is l).1 (all_orders_is l).2 rows h in
+    let read = reads_as all_orders_text [] old last (schema_in_layout l) has _ (all_orders_is l).0 (all_orders_is l).1 (all_orders_is l).2 rows h in
     let a : IsAnswerAs Null (all_orders_query (suc (first_tree l))) (overlay db []) [] rows = read.answer Null in
     let kept = a.distinct ∙ ap (map (output (all_orders_query (suc (first_tree l))))) (a.grouped ∙ ap (λ rows. flat_map (λ r. matches_as Null (overlay db []) [] end ([] ∷ r ∷ [])) rows) (no_overlay db (suc (first_tree l)))) in
     let shown : map (λ (o : Output). o.1) a.kept ≡ map show_order (db (suc (first_tree l))) = ap (map (λ (o : Output). o.1)) kept ∙ outs_order Null (overlay db []) (db (suc (first_tree l))) in
     let cut : IsPermutation (map show_order (db (suc (first_tree l)))) rows =
     subst (λ x. IsPermutation x rows) shown (subst (IsPermutation (map (λ (o : Output). o.1) a.kept)) (sym a.shown) (IsPermutation-map (λ (o : Output). o.1) a.kept a.ordered a.same)) in
-    let obeys : Obeys (schema_in l) db = subst (λ s. Obeys s db) has sound.obeys in
-    let back = all_whole_order (schema_in l) (suc (first_tree l)) db (db (suc (first_tree l))) (orders_passes db Datatype l obeys) (orders_passes db NotNull l obeys) in
+    let obeys : Obeys (schema_in_layout l) db = subst (λ s. Obeys s db) has sound.obeys in
+    let back = all_whole_order (schema_in_layout l) (suc (first_tree l)) db (db (suc (first_tree l))) (orders_passes db Datatype l obeys) (orders_passes db NotNull l obeys) in
     let stored : IsPermutation (db (suc (first_tree l))) (map unshow_order rows) = subst (λ x. IsPermutation x (map unshow_order rows)) back (IsPermutation-map unshow_order _ _ cut) in
     record {
       sound = λ r k.
@@ -174,29 +174,29 @@ outs_service : (lost : Value) (db : Trees) (rows : List Row) → map (λ (o : Ou
 outs_service lost db [] = refl
 outs_service lost db (r ∷ rows) = ap (λ x. show_service r ∷ x) (outs_service lost db rows)
 
-pub adopts_service : (old last : State) (l : ServiceLayout) (source : List ℕ) (base : ℕ) → old.now.schema ≡ schema_in l → IsDatabase old.now → Shown service_row_text [] old last (shown_service source base ∷ [])
+pub adopts_service : (old last : State) (l : ServiceLayout) (source : List ℕ) (base : ℕ) → old.now.schema ≡ schema_in_layout l → IsDatabase old.now → Shown service_row_text [] old last (shown_service source base ∷ [])
     → old.now.trees (first_tree l) ≡ service_row source base ∷ []
 adopts_service old last l source base has sound h =
     let db = old.now.trees in
     let rows : List Row = shown_service source base ∷ [] in
-    let read = reads_as service_row_text [] old last (schema_in l) has _ (service_row_is l).0 (service_row_is l).1 (service_row_is l).2 rows h in
+    let read = reads_as service_row_text [] old last (schema_in_layout l) has _ (service_row_is l).0 (service_row_is l).1 (service_row_is l).2 rows h in
     let a : IsAnswerAs Null (service_query (first_tree l)) (overlay db []) [] rows = read.answer Null in
     let kept = a.distinct ∙ ap (map (output (service_query (first_tree l)))) (a.grouped ∙ ap (λ rows. flat_map (λ r. matches_as Null (overlay db []) [] end ([] ∷ r ∷ [])) rows) (no_overlay db (first_tree l))) in
     let shown : map (λ (o : Output). o.1) a.kept ≡ map show_service (db (first_tree l)) = ap (map (λ (o : Output). o.1)) kept ∙ outs_service Null (overlay db []) (db (first_tree l)) in
     let cut : IsPermutation (map show_service (db (first_tree l))) rows =
     subst (λ x. IsPermutation x rows) shown (subst (IsPermutation (map (λ (o : Output). o.1) a.kept)) (sym a.shown) (IsPermutation-map (λ (o : Output). o.1) a.kept a.ordered a.same)) in
-    let obeys : Obeys (schema_in l) db = subst (λ s. Obeys s db) has sound.obeys in
-    let back = all_whole_service (schema_in l) (first_tree l) db (db (first_tree l)) (service_passes db Datatype l obeys) (service_passes db NotNull l obeys) in
+    let obeys : Obeys (schema_in_layout l) db = subst (λ s. Obeys s db) has sound.obeys in
+    let back = all_whole_service (schema_in_layout l) (first_tree l) db (db (first_tree l)) (service_passes db Datatype l obeys) (service_passes db NotNull l obeys) in
     let stored : IsPermutation (db (first_tree l)) (map unshow_service rows) = subst (λ x. IsPermutation x (map unshow_service rows)) back (IsPermutation-map unshow_service _ _ cut) in
     one_permutation (service_row source base) (db (first_tree l)) (IsPermutation-sym _ _ stored)
 
 -- ---- what the questions show of a service
 
-pub loads_orders : (old last : State) (l : ServiceLayout) (rows : List Row) (commands : List Accepted) → old.now.schema ≡ schema_in l → AreOrders (old.now.trees (suc (first_tree l))) commands → Shown all_orders_text [] old last rows → ShowOrders rows commands
+pub loads_orders : (old last : State) (l : ServiceLayout) (rows : List Row) (commands : List Accepted) → old.now.schema ≡ schema_in_layout l → AreOrders (old.now.trees (suc (first_tree l))) commands → Shown all_orders_text [] old last rows → ShowOrders rows commands
 loads_orders old last l rows commands has olds h =
     let db = old.now.trees in
     let t = suc (first_tree l) in
-    let read = reads_as all_orders_text [] old last (schema_in l) has _ (all_orders_is l).0 (all_orders_is l).1 (all_orders_is l).2 rows h in
+    let read = reads_as all_orders_text [] old last (schema_in_layout l) has _ (all_orders_is l).0 (all_orders_is l).1 (all_orders_is l).2 rows h in
     let a : IsAnswerAs Null (all_orders_query t) (overlay db []) [] rows = read.answer Null in
     let kept = a.distinct ∙ ap (map (output (all_orders_query t))) (a.grouped ∙ ap (λ rows. flat_map (λ r. matches_as Null (overlay db []) [] end ([] ∷ r ∷ [])) rows) (no_overlay db t)) in
     let shown : map (λ (o : Output). o.1) a.kept ≡ map show_order (db t) = ap (map (λ (o : Output). o.1)) kept ∙ outs_order Null (overlay db []) (db t) in
@@ -210,12 +210,12 @@ loads_orders old last l rows commands has olds h =
       complete = λ order status is. has_permuted (map show_order (db t)) rows cut _ (mapped_has show_order (db t) _ (olds.complete order status is));
     }
 
-pub loads_service : (old last : State) (l : ServiceLayout) (source : List ℕ) (base : ℕ) (rows : List Row) → old.now.schema ≡ schema_in l → old.now.trees (first_tree l) ≡ service_row source base ∷ [] → Shown service_row_text [] old last rows
+pub loads_service : (old last : State) (l : ServiceLayout) (source : List ℕ) (base : ℕ) (rows : List Row) → old.now.schema ≡ schema_in_layout l → old.now.trees (first_tree l) ≡ service_row source base ∷ [] → Shown service_row_text [] old last rows
     → rows ≡ shown_service source base ∷ []
 loads_service old last l source base rows has is h =
     let db = old.now.trees in
     let t = first_tree l in
-    let read = reads_as service_row_text [] old last (schema_in l) has _ (service_row_is l).0 (service_row_is l).1 (service_row_is l).2 rows h in
+    let read = reads_as service_row_text [] old last (schema_in_layout l) has _ (service_row_is l).0 (service_row_is l).1 (service_row_is l).2 rows h in
     let a : IsAnswerAs Null (service_query t) (overlay db []) [] rows = read.answer Null in
     let kept = a.distinct ∙ ap (map (output (service_query t))) (a.grouped ∙ ap (λ rows. flat_map (λ r. matches_as Null (overlay db []) [] end ([] ∷ r ∷ [])) rows) (no_overlay db t)) in
     let shown : map (λ (o : Output). o.1) a.kept ≡ map show_service (db t) = ap (map (λ (o : Output). o.1)) kept ∙ outs_service Null (overlay db []) (db t) in

@@ -10,10 +10,10 @@ use Rattle.sqlite.specs.Effect.{Database}
 use Rattle.sqlite.specs.State.{State, HasCleanDisk}
 use Rattle.outbox.specs.Order.{Accepted, IsCommand, orders_of, placed_by, refusal}
 use Rattle.outbox.specs.Service.{IsService, code, outbox_row, outbox_rows}
-use Rattle.outbox.specs.Shown.{CountsOrders, KeepsCount, Stands}
-use Rattle.outbox.specs.Call.{IsSame}
+use Rattle.outbox.specs.Shown.{CountsOrders, KeepsCount, StandsWithRows}
+use Rattle.outbox.specs.Call.{IsServiceReading}
 use Rattle.outbox.specs.Layout.{first_tree}
-use Rattle.outbox.specs.steps.Change.{Adds}
+use Rattle.outbox.specs.steps.Change.{AddsCommand}
 use Rattle.outbox.specs.declared.status.Status.{Status}
 use Rattle.outbox.specs.declared.status.Status.TheVariants.{Placed, Shipped, Cancelled}
 use Rattle.outbox.proofs.LayoutLemmas.{same_tree}
@@ -67,7 +67,7 @@ keeps_none s source base made = record {
 }
 
 -- a call that left the database
-pub keeps_same : (old new : State) (source : List ℕ) (base last orders : ℕ) → (HasCleanDisk old → IsTrue old.is_open → Stands old.now source base last) → IsSame old new → KeepsCount old source base last orders → KeepsCount new source base last orders
+pub keeps_same : (old new : State) (source : List ℕ) (base last orders : ℕ) → (HasCleanDisk old → IsTrue old.is_open → StandsWithRows old.now source base last) → IsServiceReading old new → KeepsCount old source base last orders → KeepsCount new source base last orders
 keeps_same old new source base last orders stands same keeps = record {
   few = keeps.few;
   exact = λ clean still commands box.
@@ -78,7 +78,7 @@ keeps_same old new source base last orders stands same keeps = record {
 }
 
 -- one that was refused when it wrote
-pub keeps_back : (old mid new : State) (source : List ℕ) (base last orders : ℕ) → (HasCleanDisk old → IsTrue old.is_open → Stands old.now source base last) → IsSame old mid
+pub keeps_back : (old mid new : State) (source : List ℕ) (base last orders : ℕ) → (HasCleanDisk old → IsTrue old.is_open → StandsWithRows old.now source base last) → IsServiceReading old mid
     → (HasCleanDisk new → HasCleanDisk mid) → (HasCleanDisk new → IsTrue new.is_open → IsTrue mid.is_open × (new.now ≡ mid.now))
     → KeepsCount old source base last orders → KeepsCount new source base last orders
 keeps_back old mid new source base last orders stands same cleans back keeps = record {
@@ -93,9 +93,9 @@ keeps_back old mid new source base last orders stands same cleans back keeps = r
 }
 
 -- one that accepted a command
-pub counts_after : (old mid new : State) (source : List ℕ) (base last number orders placed : ℕ) (c : Accepted) → IsCommand c → number ≡ last + 1 → IsSame old mid → HasCleanDisk mid → IsTrue mid.is_open
-    → (HasCleanDisk old → IsTrue old.is_open → Stands old.now source base last)
-    → ((source : List ℕ) (base : ℕ) (commands : List Accepted) → last ≡ base + length commands → IsService old.now source base commands → refusal base commands c.status c.order ≡ None) → Adds number c mid.now new.now
+pub counts_after : (old mid new : State) (source : List ℕ) (base last number orders placed : ℕ) (c : Accepted) → IsCommand c → number ≡ last + 1 → IsServiceReading old mid → HasCleanDisk mid → IsTrue mid.is_open
+    → (HasCleanDisk old → IsTrue old.is_open → StandsWithRows old.now source base last)
+    → ((source : List ℕ) (base : ℕ) (commands : List Accepted) → last ≡ base + length commands → IsService old.now source base commands → refusal base commands c.status c.order ≡ None) → AddsCommand number c mid.now new.now
     → placed ≡ length (placed_by c.status c.order) → KeepsCount old source base last orders → CountsOrders new.now source base (orders + placed)
 counts_after old mid new source base last number orders placed c command next same clean still stands decided adds placed_is keeps =
     let was_clean : HasCleanDisk old = omega (arith, same.clean, clean) in

@@ -9,11 +9,11 @@ use Rattle.std.proofs.Common.{nat_cmp}
 use Rattle.outbox.specs.Order.{Accepted, AreAccepted, status_of}
 use Rattle.database_layout.specs.Layout.{HasService, has_name, lacks_name, schema_in as whole_schema}
 use Rattle.database_layout.specs.declared.layout.Layout.{Layout}
-use Rattle.outbox.specs.Layout.{first_tree, schema_in}
+use Rattle.outbox.specs.Layout.{first_tree, schema_in_layout}
 use Rattle.outbox.specs.Service.{service_row, outbox_rows, AreOrders, IsService}
-use Rattle.outbox.specs.Shown.{CountsOrders, HasNoOther, IsAllowed, IsNoService, Stands}
-use Rattle.outbox.specs.Call.{IsSame, Leaves, LeavesAsBefore}
-use Rattle.outbox.specs.steps.Change.{ShowOrders, shown_rows, shown_service}
+use Rattle.outbox.specs.Shown.{CountsOrders, HasNoOther, IsAllowed, IsNoService, StandsWithRows}
+use Rattle.outbox.specs.Call.{IsServiceReading, Leaves, LeavesAsBefore}
+use Rattle.outbox.specs.steps.Change.{ShowOrders, stored_rows, shown_service}
 use Rattle.outbox.specs.steps.Replay.{IsReplay}
 use Rattle.outbox.specs.declared.adoption.Replayed.{Replayed}
 use Rattle.outbox.specs.Layout.{ServiceLayout}
@@ -25,8 +25,8 @@ use Rattle.outbox.proofs.CountLemmas.{counts_all}
 use Rattle.outbox.proofs.ReplayLemmas.{rows_tell}
 use Rattle.outbox.proofs.TextLemmas.{all_rows_text, all_orders_text, service_row_text}
 
-pub found_table : (a b c d : State) (l : ServiceLayout) (source : List ℕ) (base : ℕ) (services rows orders : List Row) (r : Replayed) → a.now.schema ≡ schema_in l → HasCleanDisk d → IsTrue d.is_open
-    → IsSame a b → IsSame b c → IsSame c d → IsLive a → IsLive b → IsLive c
+pub found_table : (a b c d : State) (l : ServiceLayout) (source : List ℕ) (base : ℕ) (services rows orders : List Row) (r : Replayed) → a.now.schema ≡ schema_in_layout l → HasCleanDisk d → IsTrue d.is_open
+    → IsServiceReading a b → IsServiceReading b c → IsServiceReading c d → IsLive a → IsLive b → IsLive c
     → (HasCleanDisk b → Shown service_row_text [] a b services) → (HasCleanDisk c → Shown all_rows_text [] b c rows) → (HasCleanDisk d → Shown all_orders_text [] c d orders)
     → services ≡ shown_service source base ∷ [] → (replay : IsReplay base rows r)
     → ((commands : List Accepted) → ((order : ℕ) → get nat_cmp r.statuses order ≡ status_of commands order) → ShowOrders orders commands) → IsService d.now source base replay.commands
@@ -37,9 +37,9 @@ found_table a b c d l source base services rows orders r has clean still one two
     let open_b = two.was_open clean_c open_c in
     let open_a = one.was_open clean_b open_b in
     let ab : b.now ≡ a.now = (one.same clean_b open_b l has).0 in
-    let has_b : b.now.schema ≡ schema_in l = ap (λ (x : Database). x.schema) ab ∙ has in
+    let has_b : b.now.schema ≡ schema_in_layout l = ap (λ (x : Database). x.schema) ab ∙ has in
     let bc : c.now ≡ b.now = (two.same clean_c open_c l has_b).0 in
-    let has_c : c.now.schema ≡ schema_in l = ap (λ (x : Database). x.schema) bc ∙ has_b in
+    let has_c : c.now.schema ≡ schema_in_layout l = ap (λ (x : Database). x.schema) bc ∙ has_b in
     let cd : d.now ≡ c.now = (three.same clean still l has_c).0 in
     let first : a.now.trees (first_tree l) ≡ service_row source base ∷ [] = adopts_service a b l source base has (live_a open_a).0 (subst (Shown service_row_text [] a b) service_is (shows_a clean_b)) in
     let second : IsPermutation (outbox_rows (suc base) replay.commands) (b.now.trees (suc (suc (first_tree l)))) = adopts_rows b c l (suc base) replay.commands has_b (live_b open_b).0 (subst (Shown all_rows_text [] b c) replay.rows_are (shows_b clean_c)) in
@@ -53,19 +53,19 @@ found_table a b c d l source base services rows orders r has clean still one two
       accepted = replay.accepted;
     }
 
-pub found : (a b c d : State) (l : ServiceLayout) (source : List ℕ) (base : ℕ) (services rows orders : List Row) (r : Replayed) → a.now.schema ≡ schema_in l → HasCleanDisk d → IsTrue d.is_open
-    → IsSame a b → IsSame b c → IsSame c d → IsLive a → IsLive b → IsLive c
+pub found : (a b c d : State) (l : ServiceLayout) (source : List ℕ) (base : ℕ) (services rows orders : List Row) (r : Replayed) → a.now.schema ≡ schema_in_layout l → HasCleanDisk d → IsTrue d.is_open
+    → IsServiceReading a b → IsServiceReading b c → IsServiceReading c d → IsLive a → IsLive b → IsLive c
     → (HasCleanDisk b → Shown service_row_text [] a b services) → (HasCleanDisk c → Shown all_rows_text [] b c rows) → (HasCleanDisk d → Shown all_orders_text [] c d orders)
     → services ≡ shown_service source base ∷ [] → IsReplay base rows r
-    → ((commands : List Accepted) → ((order : ℕ) → get nat_cmp r.statuses order ≡ status_of commands order) → ShowOrders orders commands) → Stands d.now source base r.last
+    → ((commands : List Accepted) → ((order : ℕ) → get nat_cmp r.statuses order ≡ status_of commands order) → ShowOrders orders commands) → StandsWithRows d.now source base r.last
 found a b c d l source base services rows orders r has clean still one two three live_a live_b live_c shows_a shows_b shows_c service_is replay told = record {
   commands = replay.commands;
   table = found_table a b c d l source base services rows orders r has clean still one two three live_a live_b live_c shows_a shows_b shows_c service_is replay told;
   count = replay.last;
 }
 
-pub found_counts : (a b c d : State) (l : ServiceLayout) (source : List ℕ) (base : ℕ) (services rows orders : List Row) (r : Replayed) → a.now.schema ≡ schema_in l → HasCleanDisk d → IsTrue d.is_open
-    → IsSame a b → IsSame b c → IsSame c d → IsLive a → IsLive b → IsLive c
+pub found_counts : (a b c d : State) (l : ServiceLayout) (source : List ℕ) (base : ℕ) (services rows orders : List Row) (r : Replayed) → a.now.schema ≡ schema_in_layout l → HasCleanDisk d → IsTrue d.is_open
+    → IsServiceReading a b → IsServiceReading b c → IsServiceReading c d → IsLive a → IsLive b → IsLive c
     → (HasCleanDisk b → Shown service_row_text [] a b services) → (HasCleanDisk c → Shown all_rows_text [] b c rows) → (HasCleanDisk d → Shown all_orders_text [] c d orders)
     → services ≡ shown_service source base ∷ [] → IsReplay base rows r
     → ((commands : List Accepted) → ((order : ℕ) → get nat_cmp r.statuses order ≡ status_of commands order) → ShowOrders orders commands) → CountsOrders d.now source base r.orders
@@ -73,10 +73,10 @@ found_counts a b c d l source base services rows orders r has clean still one tw
 
 -- ---- readings leave the database alone
 
-pub one_leaves : (a b : State) (l : Layout) (h : HasService l) → a.now.schema ≡ whole_schema l → IsSame a b → LeavesAsBefore a b → Leaves a b
+pub one_leaves : (a b : State) (l : Layout) (h : HasService l) → a.now.schema ≡ whole_schema l → IsServiceReading a b → LeavesAsBefore a b → Leaves a b
 one_leaves a b l h has one crash = record { clean = one.clean; same = λ clean still. (one.same clean still (l, h) has).0; crash = λ clean. crash clean (l, h) has }
 
-pub two_leave : (a b c : State) (l : Layout) (h : HasService l) → a.now.schema ≡ whole_schema l → IsSame a b → LeavesAsBefore a b → (HasCleanDisk b → IsTrue a.is_open × IsTrue b.is_open) → IsSame b c → LeavesAsBefore b c → Leaves a c
+pub two_leave : (a b c : State) (l : Layout) (h : HasService l) → a.now.schema ≡ whole_schema l → IsServiceReading a b → LeavesAsBefore a b → (HasCleanDisk b → IsTrue a.is_open × IsTrue b.is_open) → IsServiceReading b c → LeavesAsBefore b c → Leaves a c
 two_leave a b c l h has one crash_b open_b two crash_c = record {
   clean = (let e : doubt a.is_clean ≤ doubt c.is_clean = omega (arith, one.clean, two.clean) in e);
   same = λ clean still. (two.same clean still (l, h) (has_b clean)).0 ∙ is clean;
@@ -92,7 +92,7 @@ two_leave a b c l h has one crash_b open_b two crash_c = record {
     has_b : HasCleanDisk c → b.now.schema ≡ whole_schema l
     has_b clean = ap (λ (x : Database). x.schema) (is clean) ∙ has
 
-pub all_leave : (a b c d : State) (l : Layout) (h : HasService l) → a.now.schema ≡ whole_schema l → IsSame a b → LeavesAsBefore a b → (HasCleanDisk b → IsTrue a.is_open × IsTrue b.is_open) → IsSame b c → LeavesAsBefore b c → (HasCleanDisk c → IsTrue b.is_open × IsTrue c.is_open) → IsSame c d → LeavesAsBefore c d → Leaves a d
+pub all_leave : (a b c d : State) (l : Layout) (h : HasService l) → a.now.schema ≡ whole_schema l → IsServiceReading a b → LeavesAsBefore a b → (HasCleanDisk b → IsTrue a.is_open × IsTrue b.is_open) → IsServiceReading b c → LeavesAsBefore b c → (HasCleanDisk c → IsTrue b.is_open × IsTrue c.is_open) → IsServiceReading c d → LeavesAsBefore c d → Leaves a d
 all_leave a b c d l h has one crash_b open_b two crash_c open_c three crash_d = record {
   clean = (let e : doubt a.is_clean ≤ doubt d.is_clean = omega (arith, first.clean, three.clean) in e);
   same = λ clean still. (three.same clean still (l, h) (has_c clean)).0 ∙ is clean;
@@ -129,12 +129,12 @@ module _ (a b c : State) (services rows : List Row) (source : List ℕ) (base : 
       let both : shown_service source base ∷ [] ≡ shown_service other n ∷ [] = sym is ∙ loads_service a b box.layout other n services box.schema box.service first in
       cc
 
-  rows_of : (other : List ℕ) (n : ℕ) (commands : List Accepted) → IsService a.now other n commands → rows ≡ shown_rows (suc base) commands
+  rows_of : (other : List ℕ) (n : ℕ) (commands : List Accepted) → IsService a.now other n commands → rows ≡ stored_rows (suc base) commands
   rows_of other n commands box =
       let here = subst (λ (d : Database). IsService d other n commands) (sym ab) box in
-      loads_rows b c here.layout (suc n) commands rows here.schema here.outbox second ∙ ap (λ k. shown_rows (suc k) commands) (sym (same_base other n commands box))
+      loads_rows b c here.layout (suc n) commands rows here.schema here.outbox second ∙ ap (λ k. stored_rows (suc k) commands) (sym (same_base other n commands box))
 
-  pub no_rows : ((commands : List Accepted) → AreAccepted base [] commands → rows ≢ shown_rows (suc base) commands) → IsNoService a.now
+  pub no_rows : ((commands : List Accepted) → AreAccepted base [] commands → rows ≢ stored_rows (suc base) commands) → IsNoService a.now
   no_rows refuses other n commands allowed box =
       refuses commands (subst (λ k. AreAccepted k [] commands) (sym (same_base other n commands box)) box.accepted) (rows_of other n commands box)
 
@@ -149,7 +149,7 @@ pub not_both : (b : Bool) → b ≡ true → b ≡ false → ⊥
 not_both b holds fails = absurd (let e : ◌≡◌ {A = Bool} true false = sym holds ∙ fails in cc)
 
 -- the schema of a service lacks none of its tables
-pub all_named : (l : ServiceLayout) → lacks_name (schema_in l) ≡ false
+pub all_named : (l : ServiceLayout) → lacks_name (schema_in_layout l) ≡ false
 unfolding everything
 all_named (Service, h) = refl
 all_named (InboxService, h) = refl
@@ -161,7 +161,7 @@ all_named (ServiceUpgraded, h) = refl
 all_named (ShiftedUpgraded, h) = refl
 all_named (_, h) = absurd h
 
-pub has_all : (l : ServiceLayout) → has_name (schema_in l) ≡ true
+pub has_all : (l : ServiceLayout) → has_name (schema_in_layout l) ≡ true
 unfolding everything
 has_all (Service, h) = refl
 has_all (InboxService, h) = refl

@@ -18,7 +18,7 @@ use Rattle.outbox.specs.Order.{Accepted}
 use Rattle.database_layout.specs.Tables.{service, outbox}
 use Rattle.database_layout.specs.Beside.{HasAnyInbox}
 use Rattle.database_layout.specs.Layout.{inbox_tree}
-use Rattle.outbox.specs.Layout.{schema_in, first_tree}
+use Rattle.outbox.specs.Layout.{schema_in_layout, first_tree}
 use Rattle.outbox.specs.Service.{code, service_row, outbox_row}
 use Rattle.outbox.specs.Layout.{ServiceLayout}
 use Rattle.outbox.proofs.StepLemmas.{went, same_value, put_new}
@@ -50,15 +50,15 @@ append_params number c = Int (pos number) ∷ Int (pos (code c.status)) ∷ Int 
 abbrev pub found_params : List ℕ → ℕ → Row
 found_params source base = Int (pos 1) ∷ Words source ∷ Int (pos base) ∷ []
 
-pub appends : (old last : State) (l : ServiceLayout) (number : ℕ) (c : Accepted) (count : ℕ) → old.now.schema ≡ schema_in l
-    → Executes append_text (append_params number c) old last (Ok count) → (last.now.schema ≡ schema_in l) × Appends l number c old.now.trees last.now.trees × IsDatabase last.now
+pub appends : (old last : State) (l : ServiceLayout) (number : ℕ) (c : Accepted) (count : ℕ) → old.now.schema ≡ schema_in_layout l
+    → Executes append_text (append_params number c) old last (Ok count) → (last.now.schema ≡ schema_in_layout l) × Appends l number c old.now.trees last.now.trees × IsDatabase last.now
 unfolding unary
 appends old last l number c count has h =
     let params = (append_params number c) in
     let db = old.now.trees in
     let tree = suc (suc (first_tree l)) in
     let table = outbox tree in
-    let schema = schema_in l in
+    let schema = schema_in_layout l in
     let command = Insert (suc (suc (first_table l))) (Values append_terms 5) in
     let keys = (mode_of old).keys in
     let new = outbox_row number c in
@@ -87,15 +87,15 @@ appends old last l number c count has h =
       w.sound,
     )
 
-pub founds : (old last : State) (l : ServiceLayout) (source : List ℕ) (base : ℕ) (count : ℕ) → old.now.schema ≡ schema_in l
-    → Executes found_text (found_params source base) old last (Ok count) → (last.now.schema ≡ schema_in l) × Founds l source base old.now.trees last.now.trees × IsDatabase last.now
+pub founds : (old last : State) (l : ServiceLayout) (source : List ℕ) (base : ℕ) (count : ℕ) → old.now.schema ≡ schema_in_layout l
+    → Executes found_text (found_params source base) old last (Ok count) → (last.now.schema ≡ schema_in_layout l) × Founds l source base old.now.trees last.now.trees × IsDatabase last.now
 unfolding unary
 founds old last l source base count has h =
     let params = (found_params source base) in
     let db = old.now.trees in
     let tree = first_tree l in
     let table = service tree in
-    let schema = schema_in l in
+    let schema = schema_in_layout l in
     let command = Insert (first_table l) (Values found_terms 4) in
     let keys = (mode_of old).keys in
     let new = service_row source base in

@@ -24,9 +24,9 @@ use Rattle.sqlite_rules.proofs.ProbeLemmas.{has_mapped, mapped_has}
 use Rattle.sqlite.specs.State.{State, Shown}
 use Rattle.sqlite.proofs.Callers.{reads_as}
 use Rattle.outbox.specs.Order.{Accepted, status_of}
-use Rattle.outbox.specs.Layout.{schema_in, first_tree}
+use Rattle.outbox.specs.Layout.{schema_in_layout, first_tree}
 use Rattle.outbox.specs.Service.{code, order_row, outbox_row, outbox_rows, AreOrders}
-use Rattle.outbox.specs.steps.Change.{shown_row, shown_rows, TellsStatus}
+use Rattle.outbox.specs.steps.Change.{stored_row, stored_rows, TellsStatus}
 use Rattle.outbox.specs.Layout.{ServiceLayout}
 use Rattle.outbox.specs.declared.status.Status.{Status}
 use Rattle.outbox.proofs.StepLemmas.{has_permuted}
@@ -66,12 +66,12 @@ none_false : (b : Bool) → b && true ≡ b
 none_false true = refl
 none_false false = refl
 
-pub tells_status : (old last : State) (l : ServiceLayout) (commands : List Accepted) (order : ℕ) (rows : List Row) → old.now.schema ≡ schema_in l → AreOrders (old.now.trees (suc (first_tree l))) commands
+pub tells_status : (old last : State) (l : ServiceLayout) (commands : List Accepted) (order : ℕ) (rows : List Row) → old.now.schema ≡ schema_in_layout l → AreOrders (old.now.trees (suc (first_tree l))) commands
     → Shown status_text (Int (pos order) ∷ []) old last rows → TellsStatus commands order rows
 tells_status old last l commands order rows has olds h =
     let db = overlay old.now.trees [] in
     let params : Row = Int (pos order) ∷ [] in
-    let read = reads_as status_text params old last (schema_in l) has _ (status_is l).0 (status_is l).1 (status_is l).2 rows h in
+    let read = reads_as status_text params old last (schema_in_layout l) has _ (status_is l).0 (status_is l).1 (status_is l).2 rows h in
     let a : IsAnswerAs Null (status_query (suc (first_tree l))) db params rows = read.answer Null in
     let kept : a.kept ≡ map (output (status_query (suc (first_tree l)))) (flat_map (matched Null db params) (old.now.trees (suc (first_tree l)))) = a.distinct ∙ ap (map (output (status_query (suc (first_tree l))))) (a.grouped ∙ ap (λ rows. flat_map (matched Null db params) rows) (no_overlay old.now.trees (suc (first_tree l)))) in
     go rows a.ordered a.shown (subst (λ k. IsPermutation k a.ordered) kept a.same)
@@ -112,7 +112,7 @@ tells_status old last l commands order rows has olds h =
 -- ---- pages of rows
 
 abbrev out_of : ℕ → Accepted → Output
-out_of n c = (Int (pos n) ∷ [], shown_row n c)
+out_of n c = (Int (pos n) ∷ [], stored_row n c)
 
 abbrev outputs : ℕ → List Accepted → List Output
 outputs n [] = []
@@ -132,9 +132,9 @@ module _ (q : Query) (plain : (p r : ℕ) (c d : Accepted) → output_cmp q (out
   rises p [] = tt
   rises p (c ∷ commands) = (over p (suc p) c commands (omega arith), rises (suc p) commands)
 
-pub cut : (n : ℕ) (commands : List Accepted) → map (λ (o : Output). o.1) (outputs n commands) ≡ shown_rows n commands
+pub cut : (n : ℕ) (commands : List Accepted) → map (λ (o : Output). o.1) (outputs n commands) ≡ stored_rows n commands
 cut n [] = refl
-cut n (c ∷ commands) = ap (λ rows. shown_row n c ∷ rows) (cut (suc n) commands)
+cut n (c ∷ commands) = ap (λ rows. stored_row n c ∷ rows) (cut (suc n) commands)
 
 abbrev page_params : ℕ → ℕ → Row
 page_params n limit = Int (pos n) ∷ Int (pos limit) ∷ []
@@ -162,13 +162,13 @@ out_above db n limit k (suc d) (c ∷ commands) is =
     let test : list_all (holds (page_params n limit ∷ outbox_row k c ∷ [])) (page_query 0).filter ≡ false = none_false _ ∙ gt_is k n ∙ is_not_above k n (omega arith) in
     rw test (out_above db n limit (suc k) d commands (omega arith) ∙ ap (λ m. outputs m (drop d commands)) (let e : suc k + d ≡ k + suc d = omega arith in e))
 
-pub pages : (old last : State) (l : ServiceLayout) (base : ℕ) (commands : List Accepted) (n limit : ℕ) (rows : List Row) → old.now.schema ≡ schema_in l
+pub pages : (old last : State) (l : ServiceLayout) (base : ℕ) (commands : List Accepted) (n limit : ℕ) (rows : List Row) → old.now.schema ≡ schema_in_layout l
     → IsPermutation (outbox_rows (suc base) commands) (old.now.trees (suc (suc (first_tree l)))) → Shown page_text (page_params n limit) old last rows
-    → rows ≡ take limit (shown_rows (suc base + (n - base)) (drop (n - base) commands))
+    → rows ≡ take limit (stored_rows (suc base + (n - base)) (drop (n - base) commands))
 pages old last l base commands n limit rows has same h =
     let db = overlay old.now.trees [] in
     let d = n - base in
-    let read = reads_as page_text (page_params n limit) old last (schema_in l) has _ (page_is l).0 (page_is l).1 (page_is l).2 rows h in
+    let read = reads_as page_text (page_params n limit) old last (schema_in_layout l) has _ (page_is l).0 (page_is l).1 (page_is l).2 rows h in
     let a : IsAnswerAs Null (page_query (suc (suc (first_tree l)))) db (page_params n limit) rows = read.answer Null in
     let kept : a.kept ≡ map (output (page_query (suc (suc (first_tree l))))) (flat_map (paged db n limit) (old.now.trees (suc (suc (first_tree l))))) = a.distinct ∙ ap (map (output (page_query (suc (suc (first_tree l)))))) (a.grouped ∙ ap (λ rows. flat_map (paged db n limit) rows) (no_overlay old.now.trees (suc (suc (first_tree l))))) in
     let perm : IsPermutation (map (output (page_query (suc (suc (first_tree l))))) (flat_map (paged db n limit) (outbox_rows (suc base) commands))) a.ordered =
@@ -187,12 +187,12 @@ out_each : (db : Trees) (n : ℕ) (commands : List Accepted) → map (output (al
 out_each db n [] = refl
 out_each db n (c ∷ commands) = ap (λ outs. out_of n c ∷ outs) (out_each db (suc n) commands)
 
-pub loads_rows : (old last : State) (l : ServiceLayout) (n : ℕ) (commands : List Accepted) (rows : List Row) → old.now.schema ≡ schema_in l → IsPermutation (outbox_rows n commands) (old.now.trees (suc (suc (first_tree l)))) → Shown all_rows_text [] old last rows
-    → rows ≡ shown_rows n commands
+pub loads_rows : (old last : State) (l : ServiceLayout) (n : ℕ) (commands : List Accepted) (rows : List Row) → old.now.schema ≡ schema_in_layout l → IsPermutation (outbox_rows n commands) (old.now.trees (suc (suc (first_tree l)))) → Shown all_rows_text [] old last rows
+    → rows ≡ stored_rows n commands
 loads_rows old last l n commands rows has same h =
     let t = suc (suc (first_tree l)) in
     let db = overlay old.now.trees [] in
-    let read = reads_as all_rows_text [] old last (schema_in l) has _ (all_rows_is l).0 (all_rows_is l).1 (all_rows_is l).2 rows h in
+    let read = reads_as all_rows_text [] old last (schema_in_layout l) has _ (all_rows_is l).0 (all_rows_is l).1 (all_rows_is l).2 rows h in
     let a : IsAnswerAs Null (all_rows_query t) db [] rows = read.answer Null in
     let kept : a.kept ≡ map (output (all_rows_query t)) (flat_map (all db) (old.now.trees t)) = a.distinct ∙ ap (map (output (all_rows_query t))) (a.grouped ∙ ap (λ rows. flat_map (all db) rows) (no_overlay old.now.trees t)) in
     let perm : IsPermutation (map (output (all_rows_query t)) (flat_map (all db) (outbox_rows n commands))) a.ordered =

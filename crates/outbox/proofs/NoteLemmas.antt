@@ -26,7 +26,7 @@ use Rattle.outbox.specs.Order.{Accepted}
 use Rattle.database_layout.specs.Tables.{orders}
 use Rattle.database_layout.specs.Beside.{HasAnyInbox}
 use Rattle.database_layout.specs.Layout.{inbox_tree}
-use Rattle.outbox.specs.Layout.{schema_in, first_tree}
+use Rattle.outbox.specs.Layout.{schema_in_layout, first_tree}
 use Rattle.outbox.specs.Service.{code, order_row, AreOrders}
 use Rattle.outbox.specs.Layout.{ServiceLayout}
 use Rattle.outbox.proofs.StepLemmas.{went, same_value, put_new}
@@ -54,7 +54,7 @@ not_true false h = refl
 
 module _ (l : ServiceLayout) (limit : Option ℕ) (keys : Keys) (params : Row) (db : Trees) (commands : List Accepted) (c : Accepted) (olds : AreOrders (db (suc (first_tree l))) commands) where
   abbrev task : Task
-  task = record { limit = limit; keys = keys; schema = (schema_in l); table = orders (suc (first_tree l)); params = params }
+  task = record { limit = limit; keys = keys; schema = (schema_in_layout l); table = orders (suc (first_tree l)); params = params }
 
   abbrev new : Row
   new = order_row c.order c.status
@@ -64,7 +64,7 @@ module _ (l : ServiceLayout) (limit : Option ℕ) (keys : Keys) (params : Row) (
   put from within keeps service outbox beside one h =
       let it = went h in
       let edit = edit_of from (orders (suc (first_tree l))) [] Given 0 (new ∷ []) in
-      let step = one_step (schema_in l) keys from it.0 edit (no_works l keys (suc (first_tree l)) (taken_by from edit) edit.news) it.1 in
+      let step = one_step (schema_in_layout l) keys from it.0 edit (no_works l keys (suc (first_tree l)) (taken_by from edit) edit.news) it.1 in
       let cast = cast_order (suc (first_tree l)) (pos c.order) (pos (code c.status)) in
       let is : one.trees ≡ it.0 = ap (λ (w : Written). w.trees) (same_value it.2) in
       let rows : it.0 (suc (first_tree l)) ≡ put_row new (from (suc (first_tree l))) = step.rows ∙ ap (λ r. put_row r (from (suc (first_tree l)))) cast in
@@ -76,23 +76,23 @@ module _ (l : ServiceLayout) (limit : Option ℕ) (keys : Keys) (params : Row) (
         beside = λ has. let away = apart l has in ap (λ (t : Trees). t (inbox_tree l.0)) is ∙ step.others (inbox_tree l.0) away.0 away.2 ∙ beside has;
       }
 
-  all_of_order : (found : List Row) → ((x : Row) → Has found x → (r : Row) × Has (db (suc (first_tree l))) r × (conflicts None (schema_in l).indexes (orders (suc (first_tree l))) new r ≡ true) × (x ≡ rowid r ∷ []))
+  all_of_order : (found : List Row) → ((x : Row) → Has found x → (r : Row) × Has (db (suc (first_tree l))) r × (conflicts None (schema_in_layout l).indexes (orders (suc (first_tree l))) new r ≡ true) × (x ≡ rowid r ∷ []))
       → (id : ℤ) → Has (ids_of found) id → id ≡ pos c.order
   all_of_order [] sound id h = absurd h
   all_of_order (x ∷ found) sound id (inl is) =
       let s = sound x (inl refl) in
       let was = olds.sound s.0 s.1 in
-      let hit = conflict_is (suc (first_tree l)) was.0 c.order was.1 c.status (sym (no_unique l new (order_row was.0 was.1)) ∙ subst (λ r. conflicts None (schema_in l).indexes (orders (suc (first_tree l))) new r ≡ true) was.2 s.2) in
+      let hit = conflict_is (suc (first_tree l)) was.0 c.order was.1 c.status (sym (no_unique l new (order_row was.0 was.1)) ∙ subst (λ r. conflicts None (schema_in_layout l).indexes (orders (suc (first_tree l))) new r ≡ true) was.2 s.2) in
       let same : was.0 ≡ c.order = grind (arith, nat_tests, hit) in
       is ∙ ap (λ (y : Row). id_in (rowid y)) s.3 ∙ ap (λ (r : Row). id_in (rowid r)) was.2 ∙ ap pos same
   all_of_order (x ∷ found) sound id (inr h) = all_of_order found (λ y k. sound y (inr k)) id h
 
-  cleared : (one : Written) (found : List Row) → AreConflicts None (schema_in l).indexes (orders (suc (first_tree l))) (db (suc (first_tree l))) new found → Clears task Replace new db found (Ok one) → Notes l commands c db one.trees
+  cleared : (one : Written) (found : List Row) → AreConflicts None (schema_in_layout l).indexes (orders (suc (first_tree l))) (db (suc (first_tree l))) new found → Clears task Replace new db found (Ok one) → Notes l commands c db one.trees
   cleared one [] real h = put db (λ r k. k) (λ m s e k. k) refl refl (λ has. refl) one h
   cleared one (x ∷ more) real h =
       let it = went h in
       let edit = edit_of db (orders (suc (first_tree l))) (ids_of (x ∷ more)) Given 0 [] in
-      let step = one_step (schema_in l) keys db it.0 edit (no_works l keys (suc (first_tree l)) (taken_by db edit) edit.news) it.1 in
+      let step = one_step (schema_in_layout l) keys db it.0 edit (no_works l keys (suc (first_tree l)) (taken_by db edit) edit.news) it.1 in
       let rows : it.0 (suc (first_tree l)) ≡ without_all (db (suc (first_tree l))) (ids_of (x ∷ more)) = step.rows in
       put it.0 (λ r k. within_all (ids_of (x ∷ more)) (db (suc (first_tree l))) r (subst (λ l. Has l r) rows k))
       (λ m s apart k. subst (λ l. Has l (order_row m s)) (sym rows)
@@ -113,17 +113,17 @@ module _ (l : ServiceLayout) (limit : Option ℕ) (keys : Keys) (params : Row) (
       let same : done.0.trees ≡ it.0.trees = ap (λ (p : Written × ℤ). p.0.trees) (same_value it.2) in
       subst (Notes l commands c db) (sym same) left
 
-pub notes : (old last : State) (l : ServiceLayout) (commands : List Accepted) (c : Accepted) (count : ℕ) → old.now.schema ≡ (schema_in l) → AreOrders (old.now.trees (suc (first_tree l))) commands
-    → Executes note_text (note_params c) old last (Ok count) → (last.now.schema ≡ (schema_in l)) × Notes l commands c old.now.trees last.now.trees
+pub notes : (old last : State) (l : ServiceLayout) (commands : List Accepted) (c : Accepted) (count : ℕ) → old.now.schema ≡ (schema_in_layout l) → AreOrders (old.now.trees (suc (first_tree l))) commands
+    → Executes note_text (note_params c) old last (Ok count) → (last.now.schema ≡ (schema_in_layout l)) × Notes l commands c old.now.trees last.now.trees
 unfolding unary
 notes old last l commands c count has olds h =
     let params = note_params c in
     let db = old.now.trees in
     let command = InsertOr (suc (first_table l)) Replace (Values note_terms 3) [] in
-    let w = runs_as note_text params old last (schema_in l) has command (note_is l).0 (note_is l).1 count h in
-    let text = statement_of note_text (understood (schema_in l) note_text) in
+    let w = runs_as note_text params old last (schema_in_layout l) has command (note_is l).0 (note_is l).1 count h in
+    let text = statement_of note_text (understood (schema_in_layout l) note_text) in
     let does = subst (λ s. Does old.step_limit (mode_of old) params (record old.now { schema = s }) text None command (Ok (w.tally, last.now))) has w.changed in
-    let done = went (subst (λ o. AtPlace (λ table. OnRows (record { limit = old.step_limit; keys = (mode_of old).keys; schema = schema_in l; table = table; params = params }) (mode_of old) None command db) o (Ok (w.tally, last.now))) (orders_listed l) does) in
+    let done = went (subst (λ o. AtPlace (λ table. OnRows (record { limit = old.step_limit; keys = (mode_of old).keys; schema = schema_in_layout l; table = table; params = params }) (mode_of old) None command db) o (Ok (w.tally, last.now))) (orders_listed l) does) in
     let end = same_value (went (went done.2).2).2 in
     let given = went done.1 in
     let counter = went given.2 in

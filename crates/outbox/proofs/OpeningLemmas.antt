@@ -6,9 +6,9 @@ use Rattle.database_layout.specs.Layout.{has_name, lacks_name}
 use Rattle.outbox.specs.Order.{Accepted}
 use Rattle.outbox.specs.Service.{IsService}
 use Rattle.outbox.specs.Layout.{IsOthers}
-use Rattle.outbox.specs.Shown.{HasNoOther, IsNoService, Shown, Stands, StandsFor}
+use Rattle.outbox.specs.Shown.{HasNoOther, IsNoService, Shown, StandsWithRows, StandsForService}
 use Rattle.outbox.specs.Call.{IsAsItWas, IsFounded, IsSettled, Leaves, MayFound}
-use Rattle.outbox.specs.Opening.{IsRefused, LeavesOrMakes, Opens}
+use Rattle.outbox.specs.Opening.{IsOpeningRefused, LeavesOrMakes, OpensService}
 use Rattle.outbox.specs.declared.fault.OutboxFault.{OutboxFault}
 use Rattle.outbox.specs.declared.fault.OutboxFault.TheVariants.{Foreign, OutOfMemory, Store}
 use Rattle.outbox.proofs.FoundLemmas.{not_both}
@@ -24,7 +24,7 @@ module _ (source : List ℕ) (base : ℕ) (old new : State) where
       go (inl before) = inl before
       go (inr founds) = inr (none, founds)
 
-  pub taken : {S : Type 0} (is : Shown S) → has_name old.now.schema ≡ true → Leaves old new → StandsFor new is.source is.base is.last → (HasCleanDisk new → HasNoOther old.now is.source is.base) → (HasCleanDisk new → IsTrue new.is_open) → (HasCleanDisk new → IsSettled new) → Opens source base old is new
+  pub taken : {S : Type 0} (is : Shown S) → has_name old.now.schema ≡ true → Leaves old new → StandsForService new is.source is.base is.last → (HasCleanDisk new → HasNoOther old.now is.source is.base) → (HasCleanDisk new → IsTrue new.is_open) → (HasCleanDisk new → IsSettled new) → OpensService source base old is new
   taken is there left stands exact stays settled = record {
     clean = left.clean;
     left = λ _. left;
@@ -38,7 +38,7 @@ module _ (source : List ℕ) (base : ℕ) (old new : State) where
     crash = left_crash left;
   }
 
-  new_stands : {S : Type 0} (is : Shown S) → IsService new.now source base [] → is.source ≡ source → is.base ≡ base → is.last ≡ base → Stands new.now is.source is.base is.last
+  new_stands : {S : Type 0} (is : Shown S) → IsService new.now source base [] → is.source ≡ source → is.base ≡ base → is.last ≡ base → StandsWithRows new.now is.source is.base is.last
   new_stands is service source_is base_is last_is = record {
     commands = [];
     table = subst (λ s. IsService new.now s is.base []) (sym source_is) (subst (λ n. IsService new.now source n []) (sym base_is) service);
@@ -46,7 +46,7 @@ module _ (source : List ℕ) (base : ℕ) (old new : State) where
   }
 
   pub founded : {S : Type 0} (is : Shown S) → has_name old.now.schema ≡ false → ((s : List ℕ) (b : ℕ) (commands : List Accepted) → IsService old.now s b commands → ⊥) → (is.source ≡ source) × (is.base ≡ base) × (is.last ≡ base) → (HasCleanDisk new → IsFounded source base old.now new.now) → (HasCleanDisk new → IsTrue new.is_open)
-      → (HasCleanDisk new → IsSettled new) → Survives old new (MayFound source base old.now) → Opens source base old is new
+      → (HasCleanDisk new → IsSettled new) → Survives old new (MayFound source base old.now) → OpensService source base old is new
   founded is none first given made stays settled survives = record {
     clean = survives.clean;
     left = λ there. absurd (not_both (has_name old.now.schema) there none);
@@ -60,7 +60,7 @@ module _ (source : List ℕ) (base : ℕ) (old new : State) where
     crash = founded_crash none survives;
   }
 
-  pub not_taken : (f : OutboxFault) → has_name old.now.schema ≡ true → Leaves old new → (HasCleanDisk new → f ≡ Foreign → IsNoService old.now) → (lacks_name old.now.schema ≡ false → IsOthers old.now.schema → f ≢ Foreign) → (f ≡ OutOfMemory) ⊎ ((f ≡ Store) ⊎ (f ≡ Foreign)) → IsRefused source base old new f
+  pub not_taken : (f : OutboxFault) → has_name old.now.schema ≡ true → Leaves old new → (HasCleanDisk new → f ≡ Foreign → IsNoService old.now) → (lacks_name old.now.schema ≡ false → IsOthers old.now.schema → f ≢ Foreign) → (f ≡ OutOfMemory) ⊎ ((f ≡ Store) ⊎ (f ≡ Foreign)) → IsOpeningRefused source base old new f
   not_taken f there left foreign strange fault = record {
     clean = left.clean;
     same = λ clean still. left.same clean still;
@@ -71,7 +71,7 @@ module _ (source : List ℕ) (base : ℕ) (old new : State) where
     fault = fault;
   }
 
-  pub not_founded : (f : OutboxFault) → has_name old.now.schema ≡ false → IsAsItWas old new → Survives old new (MayFound source base old.now) → (f ≡ Foreign → has_name old.now.schema ≡ true) → (f ≡ OutOfMemory) ⊎ ((f ≡ Store) ⊎ (f ≡ Foreign)) → IsRefused source base old new f
+  pub not_founded : (f : OutboxFault) → has_name old.now.schema ≡ false → IsAsItWas old new → Survives old new (MayFound source base old.now) → (f ≡ Foreign → has_name old.now.schema ≡ true) → (f ≡ OutOfMemory) ⊎ ((f ≡ Store) ⊎ (f ≡ Foreign)) → IsOpeningRefused source base old new f
   not_founded f none same survives there fault = record {
     clean = survives.clean;
     same = same;

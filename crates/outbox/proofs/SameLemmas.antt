@@ -8,8 +8,8 @@ use Rattle.sqlite.specs.Clock.{timed}
 use Rattle.sqlite.specs.Listing.{understood}
 use Rattle.sqlite.specs.State.{State, HasCleanDisk, Survives, IsUnchanged, IsRolledBack, FailsToQuery, CommitsShowing, FailsToShow, IsNotRun, Shown, ShowsRows}
 use Rattle.sqlite.proofs.Callers.{IsPlain}
-use Rattle.outbox.specs.Layout.{schema_in}
-use Rattle.outbox.specs.Call.{IsSame, LeavesAsBefore}
+use Rattle.outbox.specs.Layout.{schema_in_layout}
+use Rattle.outbox.specs.Call.{IsServiceReading, LeavesAsBefore}
 use Rattle.outbox.specs.Layout.{ServiceLayout}
 use Rattle.outbox.specs.steps.Rest.{HasCommitted}
 
@@ -29,7 +29,7 @@ not_shown sql params old new e (inr (c, it, shows)) = go c.returning shows
     go (Some what) (inr h) = inr h.3
 
 -- the answer of a query that writes nothing
-pub shown : (l : ServiceLayout) (sql : List ℕ) (params : Row) (old new : State) (rows : List Row) → IsPlain (understood (schema_in l) sql) → old.now.schema ≡ schema_in l → Shown sql params old new rows → IsUnchanged old new
+pub shown : (l : ServiceLayout) (sql : List ℕ) (params : Row) (old new : State) (rows : List Row) → IsPlain (understood (schema_in_layout l) sql) → old.now.schema ≡ schema_in_layout l → Shown sql params old new rows → IsUnchanged old new
 unfolding Shown
 shown l sql params old new rows plain has h =
     let known = sym h.1.is ∙ ap (λ s. understood s sql) has in
@@ -45,7 +45,7 @@ open_where old new (inl h) still = h.0.was_open
 open_where old new (inr h) still = h.was_open still
 
 -- a query that is plain under the schema commits nothing
-no_commit : (l : ServiceLayout) (sql : List ℕ) (params : Row) (s : State) (db : Trees) → IsPlain (understood (schema_in l) sql) → s.now.schema ≡ schema_in l → ¬ CommitsShowing sql params s db
+no_commit : (l : ServiceLayout) (sql : List ℕ) (params : Row) (s : State) (db : Trees) → IsPlain (understood (schema_in_layout l) sql) → s.now.schema ≡ schema_in_layout l → ¬ CommitsShowing sql params s db
 unfolding CommitsShowing
 no_commit l sql params s db plain has h =
     let known = sym h.1.is ∙ ap (λ x. understood x sql) has in
@@ -53,7 +53,7 @@ no_commit l sql params s db plain has h =
     absurd (let e = (rw bare.0 at h.2) in cc)
 
 abbrev ArePlain : List ℕ → Type 0
-ArePlain sql = (l : ServiceLayout) → IsPlain (understood (schema_in l) sql)
+ArePlain sql = (l : ServiceLayout) → IsPlain (understood (schema_in_layout l) sql)
 
 pub leaves : (sql : List ℕ) (params : Row) (old new : State) → ArePlain sql → Survives old new (CommitsShowing sql params old) → LeavesAsBefore old new
 leaves sql params old new plain survives clean l has db may = go (survives.crash clean db may)
@@ -62,7 +62,7 @@ leaves sql params old new plain survives clean l has db may = go (survives.crash
     go (inl before) = before
     go (inr commits) = absurd (no_commit l sql params old db (plain l) has commits)
 
-pub refused_same : (sql : List ℕ) (params : Row) (old new : State) (e : Error) → Survives old new (CommitsShowing sql params old) → (IsTrue old.is_open → old.now ≡ old.committed) → (HasCleanDisk new → FailsToQuery sql params old new e) → IsSame old new
+pub refused_same : (sql : List ℕ) (params : Row) (old new : State) (e : Error) → Survives old new (CommitsShowing sql params old) → (IsTrue old.is_open → old.now ≡ old.committed) → (HasCleanDisk new → FailsToQuery sql params old new e) → IsServiceReading old new
 refused_same sql params old new e survives settled fails = record {
   clean = survives.clean;
   was_open = λ clean still. open_where old new (not_shown sql params old new e (fails clean)) still;
@@ -91,7 +91,7 @@ shown_stays_open sql params old new rows h = go h.0.returning h.2
     go None k = k.3.0.is_open
     go (Some what) k = k.1.shown.is_open
 
-pub answered_same : (sql : List ℕ) (params : Row) (old new : State) (rows : List Row) → ArePlain sql → Survives old new (CommitsShowing sql params old) → (HasCleanDisk new → Shown sql params old new rows) → IsSame old new
+pub answered_same : (sql : List ℕ) (params : Row) (old new : State) (rows : List Row) → ArePlain sql → Survives old new (CommitsShowing sql params old) → (HasCleanDisk new → Shown sql params old new rows) → IsServiceReading old new
 answered_same sql params old new rows plain survives shows = record {
   clean = survives.clean;
   was_open = λ clean still. shown_open sql params old new rows (shows clean);

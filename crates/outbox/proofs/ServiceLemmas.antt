@@ -15,9 +15,9 @@ use Rattle.attributes.specs.Time.{time_day}
 use Rattle.outbox.specs.Order.{Accepted, AreAccepted, IsCommand, refusal, status_fault, status_of}
 use Rattle.outbox.specs.Row.{row_event, events_from, rows_after}
 use Rattle.outbox.specs.Service.{IsService, code, outbox_rows}
-use Rattle.outbox.specs.Shown.{Shown, Stands}
-use Rattle.outbox.specs.Call.{CommandEffect, IsSame, IsSettled, LeavesAsBefore, MayAccept, Refuses}
-use Rattle.outbox.specs.steps.Change.{Adds, HasAdded, MayAdd, TellsStatus, shown_row, shown_rows}
+use Rattle.outbox.specs.Shown.{Shown, StandsWithRows}
+use Rattle.outbox.specs.Call.{CommandEffect, IsServiceReading, IsSettled, LeavesAsBefore, MayAccept, RefusesCommand}
+use Rattle.outbox.specs.steps.Change.{AddsCommand, HasAdded, MayAdd, TellsStatus, stored_row, stored_rows}
 use Rattle.outbox.specs.declared.fault.OutboxFault.{OutboxFault}
 use Rattle.outbox.specs.declared.fault.OutboxFault.TheVariants.{Foreign, Full, OutOfMemory, Store}
 use Rattle.outbox.specs.declared.status.Status.{Status}
@@ -68,9 +68,9 @@ same_count db source base one two a b =
     let trees : length (db.trees (suc (suc (first_tree a.layout)))) ≡ length (db.trees (suc (suc (first_tree b.layout)))) = ap (λ t. length (db.trees (suc (suc t)))) same in
     sym (length_rows (suc base) one) ∙ sym (length_permutation _ _ a.outbox) ∙ trees ∙ length_permutation _ _ b.outbox ∙ length_rows (suc base) two
 
-pub after_write : (old mid : State) (new : Database) (source : List ℕ) (base last number : ℕ) (c : Accepted) → IsCommand c → number ≡ last + 1 → IsSame old mid → HasCleanDisk mid → IsTrue mid.is_open
-    → (HasCleanDisk old → IsTrue old.is_open → Stands old.now source base last)
-    → ((source : List ℕ) (base : ℕ) (commands : List Accepted) → last ≡ base + length commands → IsService old.now source base commands → refusal base commands c.status c.order ≡ None) → Adds number c mid.now new
+pub after_write : (old mid : State) (new : Database) (source : List ℕ) (base last number : ℕ) (c : Accepted) → IsCommand c → number ≡ last + 1 → IsServiceReading old mid → HasCleanDisk mid → IsTrue mid.is_open
+    → (HasCleanDisk old → IsTrue old.is_open → StandsWithRows old.now source base last)
+    → ((source : List ℕ) (base : ℕ) (commands : List Accepted) → last ≡ base + length commands → IsService old.now source base commands → refusal base commands c.status c.order ≡ None) → AddsCommand number c mid.now new
     → (commands : List Accepted) → IsService old.now source base commands → (refusal base commands c.status c.order ≡ None) × HasAdded source base commands c old.now new × (number ≡ suc (base + length commands))
 after_write old mid new source base last number c command next same clean still stands decided adds commands box =
     let was_clean : HasCleanDisk old = omega (arith, same.clean, clean) in
@@ -81,10 +81,10 @@ after_write old mid new source base last number c command next same clean still 
     let is : old.now ≡ mid.now = sym (same.same clean still box.layout box.schema).0 in
     (none, subst (λ (d : Database). HasAdded source base commands c d new) (sym is) (adds source base commands number_is command none (subst (λ (d : Database). IsService d source base commands) is box)), number_is)
 
-pub stands_after : (old mid new : State) (source : List ℕ) (base last number : ℕ) (c : Accepted) → IsCommand c → number ≡ last + 1 → IsSame old mid → HasCleanDisk mid → IsTrue mid.is_open
-    → (HasCleanDisk old → IsTrue old.is_open → Stands old.now source base last)
-    → ((source : List ℕ) (base : ℕ) (commands : List Accepted) → last ≡ base + length commands → IsService old.now source base commands → refusal base commands c.status c.order ≡ None) → Adds number c mid.now new.now
-    → Stands new.now source base (last + 1)
+pub stands_after : (old mid new : State) (source : List ℕ) (base last number : ℕ) (c : Accepted) → IsCommand c → number ≡ last + 1 → IsServiceReading old mid → HasCleanDisk mid → IsTrue mid.is_open
+    → (HasCleanDisk old → IsTrue old.is_open → StandsWithRows old.now source base last)
+    → ((source : List ℕ) (base : ℕ) (commands : List Accepted) → last ≡ base + length commands → IsService old.now source base commands → refusal base commands c.status c.order ≡ None) → AddsCommand number c mid.now new.now
+    → StandsWithRows new.now source base (last + 1)
 stands_after old mid new source base last number c command next same clean still stands decided adds =
     let was_clean : HasCleanDisk old = omega (arith, same.clean, clean) in
     let was = stands was_clean (same.was_open clean still) in
@@ -92,13 +92,13 @@ stands_after old mid new source base last number c command next same clean still
     record { commands = was.commands ++ c ∷ []; table = it.1.service; count = (let e : last + 1 ≡ base + length (was.commands ++ c ∷ []) = omega (arith, was.count, length-append was.commands (c ∷ [])) in e) }
 
 -- a refused call leaves what it stands for
-pub stands_back : (old mid new : State) (source : List ℕ) (base last : ℕ) → (HasCleanDisk old → IsTrue old.is_open → Stands old.now source base last) → IsSame old mid → HasCleanDisk mid → IsTrue mid.is_open → new.now ≡ mid.now → Stands new.now source base last
+pub stands_back : (old mid new : State) (source : List ℕ) (base last : ℕ) → (HasCleanDisk old → IsTrue old.is_open → StandsWithRows old.now source base last) → IsServiceReading old mid → HasCleanDisk mid → IsTrue mid.is_open → new.now ≡ mid.now → StandsWithRows new.now source base last
 stands_back old mid new source base last stands same clean still back =
     let was_clean : HasCleanDisk old = omega (arith, same.clean, clean) in
     let was = stands was_clean (same.was_open clean still) in
     record { commands = was.commands; table = subst (λ (d : Database). IsService d source base was.commands) (sym (back ∙ (same.same clean still was.table.layout was.table.schema).0)) was.table; count = was.count }
 
-pub counted : (old mid : State) (source : List ℕ) (base last : ℕ) → (HasCleanDisk old → IsTrue old.is_open → Stands old.now source base last) → IsSame old mid → HasCleanDisk mid → IsTrue mid.is_open
+pub counted : (old mid : State) (source : List ℕ) (base last : ℕ) → (HasCleanDisk old → IsTrue old.is_open → StandsWithRows old.now source base last) → IsServiceReading old mid → HasCleanDisk mid → IsTrue mid.is_open
     → (commands : List Accepted) → IsService old.now source base commands → last ≡ base + length commands
 counted old mid source base last stands same clean still commands box =
     let was_clean : HasCleanDisk old = omega (arith, same.clean, clean) in
@@ -106,7 +106,7 @@ counted old mid source base last stands same clean still commands box =
     omega (arith, was.count, same_count old.now source base was.commands commands was.table box)
 
 -- a call that left the database leaves what it stands for
-pub stands_same : (old new : State) (source : List ℕ) (base last : ℕ) → (HasCleanDisk old → IsTrue old.is_open → Stands old.now source base last) → IsSame old new → HasCleanDisk new → IsTrue new.is_open → Stands new.now source base last
+pub stands_same : (old new : State) (source : List ℕ) (base last : ℕ) → (HasCleanDisk old → IsTrue old.is_open → StandsWithRows old.now source base last) → IsServiceReading old new → HasCleanDisk new → IsTrue new.is_open → StandsWithRows new.now source base last
 stands_same old new source base last stands same clean still =
     let was_clean : HasCleanDisk old = omega (arith, same.clean, clean) in
     let was = stands was_clean (same.was_open clean still) in
@@ -122,12 +122,12 @@ pub store_or_memory : (f : OutboxFault) → (f ≡ OutOfMemory) ⊎ (f ≡ Store
 store_or_memory f (inl is) no_memory no_store = no_memory is
 store_or_memory f (inr is) no_memory no_store = no_store is
 
-module _ {S : Type 0} (c : Accepted) (was : Shown S) (old mid : State) (stands : HasCleanDisk old → IsTrue old.is_open → Stands old.now was.source was.base was.last) (same : IsSame old mid) (leaves : LeavesAsBefore old mid) (clean : HasCleanDisk mid) where
+module _ {S : Type 0} (c : Accepted) (was : Shown S) (old mid : State) (stands : HasCleanDisk old → IsTrue old.is_open → StandsWithRows old.now was.source was.base was.last) (same : IsServiceReading old mid) (leaves : LeavesAsBefore old mid) (clean : HasCleanDisk mid) where
   was_clean : HasCleanDisk old
   was_clean = omega (arith, same.clean, clean)
 
   -- refused before it is written
-  pub effect_left : (f : OutboxFault) → (IsTrue mid.is_open → f ≢ OutOfMemory → f ≢ Store → Refuses was.source was.base c.status c.order old.now f) → CommandEffect c was old mid (Err f)
+  pub effect_left : (f : OutboxFault) → (IsTrue mid.is_open → f ≢ OutOfMemory → f ≢ Store → RefusesCommand was.source was.base c.status c.order old.now f) → CommandEffect c was old mid (Err f)
   effect_left f refused = record {
     clean = was_clean;
     accepted = tt;
@@ -142,10 +142,10 @@ module _ {S : Type 0} (c : Accepted) (was : Shown S) (old mid : State) (stands :
   module _ (still : IsTrue mid.is_open) (number : ℕ) (command : IsCommand c) (next : number ≡ was.last + 1)
       (decided : (source : List ℕ) (base : ℕ) (commands : List Accepted) → was.last ≡ base + length commands → IsService old.now source base commands → refusal base commands c.status c.order ≡ None)
       (new : State) (survives : Survives mid new (MayAdd number c mid)) where
-    it_stands : Stands old.now was.source was.base was.last
+    it_stands : StandsWithRows old.now was.source was.base was.last
     it_stands = stands was_clean (same.was_open clean still)
 
-    added : (db : Database) → Adds number c mid.now db → (commands : List Accepted) → IsService old.now was.source was.base commands
+    added : (db : Database) → AddsCommand number c mid.now db → (commands : List Accepted) → IsService old.now was.source was.base commands
         → (refusal was.base commands c.status c.order ≡ None) × HasAdded was.source was.base commands c old.now db × (number ≡ suc (was.base + length commands))
     added db adds = after_write old mid db was.source was.base was.last number c command next same clean still stands decided adds
 
@@ -176,7 +176,7 @@ module _ {S : Type 0} (c : Accepted) (was : Shown S) (old mid : State) (stands :
     }
 
     -- the write was answered
-    pub effect_done : (e : EventValue) → HasCleanDisk new → Adds number c mid.now new.now → IsTrue new.is_open → IsSettled new → e ≡ row_event was.source number c → CommandEffect c was old new (Ok e)
+    pub effect_done : (e : EventValue) → HasCleanDisk new → AddsCommand number c mid.now new.now → IsTrue new.is_open → IsSettled new → e ≡ row_event was.source number c → CommandEffect c was old new (Ok e)
     effect_done e clean_new adds open_now rests event = record {
       clean = was_clean;
       accepted = λ commands box. let it = added new.now adds commands box in (it.0, it.1.service, event ∙ ap (λ n. row_event was.source n c) it.2);
@@ -221,22 +221,22 @@ first_row commands order (r ∷ rows) row status low is reads tells =
 pub record HasRead (source : List ℕ) (rows : List Row) (at : ℕ) (events : List EventValue) (number : ℕ) (commands : List Accepted) : Type 0 where
   pub left : List Accepted
   pub next : ℕ
-  pub rest : drop at rows ≡ shown_rows next left
+  pub rest : drop at rows ≡ stored_rows next left
   pub so_far : events ++ events_from source next left ≡ events_from source number commands
 
-pub read_none : (source : List ℕ) (rows : List Row) (number : ℕ) (commands : List Accepted) → rows ≡ shown_rows number commands → HasRead source rows 0 [] number commands
+pub read_none : (source : List ℕ) (rows : List Row) (number : ℕ) (commands : List Accepted) → rows ≡ stored_rows number commands → HasRead source rows 0 [] number commands
 read_none source rows number commands h = record { left = commands; next = number; rest = h; so_far = refl }
 
 pub read_on : (source : List ℕ) (rows : List Row) (at : ℕ) (row : Row) (events : List EventValue) (event : EventValue) (number : ℕ) (commands : List Accepted) → at < length rows → row ≡ get_or rows at row
-    → ((n : ℕ) (c : Accepted) → row ≡ shown_row n c → event ≡ row_event source n c) → HasRead source rows at events number commands → HasRead source rows (at + 1) (events ++ event ∷ []) number commands
+    → ((n : ℕ) (c : Accepted) → row ≡ stored_row n c → event ≡ row_event source n c) → HasRead source rows at events number commands → HasRead source rows (at + 1) (events ++ event ∷ []) number commands
 read_on source rows at row events event number commands low is reads h = go h.left (sym (drop-cons rows at row low) ∙ h.rest) h.so_far
   where
-    go : (left : List Accepted) → get_or rows at row ∷ drop (suc at) rows ≡ shown_rows h.next left → events ++ events_from source h.next left ≡ events_from source number commands
+    go : (left : List Accepted) → get_or rows at row ∷ drop (suc at) rows ≡ stored_rows h.next left → events ++ events_from source h.next left ≡ events_from source number commands
         → HasRead source rows (at + 1) (events ++ event ∷ []) number commands
     go [] e so_far = absurd (cc)
     go (c ∷ left) e so_far =
-        let head : get_or rows at row ≡ shown_row h.next c = cc in
-        let tail : drop (suc at) rows ≡ shown_rows (suc h.next) left = cc in
+        let head : get_or rows at row ≡ stored_row h.next c = cc in
+        let tail : drop (suc at) rows ≡ stored_rows (suc h.next) left = cc in
         let one = reads h.next c (is ∙ head) in
         record {
           left = left;
@@ -248,7 +248,7 @@ read_on source rows at row events event number commands low is reads h = go h.le
 pub read_all : (source : List ℕ) (rows : List Row) (at : ℕ) (events : List EventValue) (number : ℕ) (commands : List Accepted) → length rows ≤ at → HasRead source rows at events number commands → events ≡ events_from source number commands
 read_all source rows at events number commands high h = go h.left (sym (drop_all at rows high) ∙ h.rest) h.so_far
   where
-    go : (left : List Accepted) → [] ≡ shown_rows h.next left → events ++ events_from source h.next left ≡ events_from source number commands → events ≡ events_from source number commands
+    go : (left : List Accepted) → [] ≡ stored_rows h.next left → events ++ events_from source h.next left ≡ events_from source number commands → events ≡ events_from source number commands
     go [] e so_far = sym (append-nil events) ∙ so_far
     go (c ∷ left) e so_far = absurd (cc)
 
@@ -259,10 +259,10 @@ events_drop source n zero commands = ap (λ k. events_from source k commands) (l
 events_drop source n (suc d) [] = refl
 events_drop source n (suc d) (c ∷ commands) = ap (λ k. events_from source k (drop d commands)) (let e : n + suc d ≡ suc n + d = omega arith in e) ∙ events_drop source (suc n) d commands
 
-shown_take : (k n : ℕ) (commands : List Accepted) → take k (shown_rows n commands) ≡ shown_rows n (take k commands)
+shown_take : (k n : ℕ) (commands : List Accepted) → take k (stored_rows n commands) ≡ stored_rows n (take k commands)
 shown_take zero n commands = refl
 shown_take (suc k) n [] = refl
-shown_take (suc k) n (c ∷ commands) = ap (λ rows. shown_row n c ∷ rows) (shown_take k (suc n) commands)
+shown_take (suc k) n (c ∷ commands) = ap (λ rows. stored_row n c ∷ rows) (shown_take k (suc n) commands)
 
 events_take : (source : List ℕ) (k n : ℕ) (commands : List Accepted) → events_from source n (take k commands) ≡ take k (events_from source n commands)
 events_take source zero n commands = refl
@@ -297,15 +297,15 @@ within base before (c ∷ commands) low a =
     let rest : base + length (before ++ c ∷ []) + length commands ≤ max_sequence = within base (before ++ c ∷ []) commands (omega (arith, less, longer)) a.2 in
     omega (arith, rest, longer)
 
-pub page_of : (source : List ℕ) (base after limit : ℕ) (commands : List Accepted) (rows : List Row) (events : List EventValue) → rows ≡ take limit (shown_rows (suc base + (after - base)) (drop (after - base) commands))
-    → ((n : ℕ) (left : List Accepted) → rows ≡ shown_rows n left → events ≡ events_from source n left) → events ≡ rows_after source base commands after limit
+pub page_of : (source : List ℕ) (base after limit : ℕ) (commands : List Accepted) (rows : List Row) (events : List EventValue) → rows ≡ take limit (stored_rows (suc base + (after - base)) (drop (after - base) commands))
+    → ((n : ℕ) (left : List Accepted) → rows ≡ stored_rows n left → events ≡ events_from source n left) → events ≡ rows_after source base commands after limit
 page_of source base after limit commands rows events is reads =
     let d = after - base in
     reads (suc base + d) (take limit (drop d commands)) (is ∙ shown_take limit (suc base + d) (drop d commands))
     ∙ events_take source limit (suc base + d) (drop d commands) ∙ ap (take limit) (events_drop source (suc base) d commands)
 
 pub page_capped : (source : List ℕ) (db : Database) (base after at limit : ℕ) (commands : List Accepted) (rows : List Row) (events : List EventValue) → base ≤ max_sequence → (after ≤ max_sequence → at ≡ after) → (max_sequence < after → at ≡ max_sequence)
-    → IsService db source base commands → rows ≡ take limit (shown_rows (suc base + (at - base)) (drop (at - base) commands)) → ((n : ℕ) (left : List Accepted) → rows ≡ shown_rows n left → events ≡ events_from source n left)
+    → IsService db source base commands → rows ≡ take limit (stored_rows (suc base + (at - base)) (drop (at - base) commands)) → ((n : ℕ) (left : List Accepted) → rows ≡ stored_rows n left → events ≡ events_from source n left)
     → events ≡ rows_after source base commands after limit
 page_capped source db base after at limit commands rows events low near far box is reads = elim (Rattle.std.proofs.lemmas.Bool.cases_Bool (Rattle.std.proofs.Common.nat_lt max_sequence after)) [
   | inl above ↦ (let more : max_sequence < after = grind (arith, nat_tests, above) in

@@ -13,13 +13,13 @@ use Rattle.sqlite_schema.specs.declared.command.Command.TheVariants.{Insert, Ins
 use Rattle.sqlite_tied.specs.Compute.{everything}
 use Rattle.sqlite.specs.Listing.{understood, reads_listing}
 use Rattle.sqlite.proofs.Callers.{IsPlain, command_of}
-use Rattle.outbox.specs.Layout.{ServiceLayout, first_tree, schema_in}
+use Rattle.outbox.specs.Layout.{ServiceLayout, first_tree, schema_in_layout}
 use Rattle.database_layout.specs.declared.layout.Layout.TheVariants.{Service, InboxService, ServiceInbox, Inbox2Service, ServiceInbox2, UpgradedService, ServiceUpgraded, ShiftedUpgraded}
 pub use Rattle.outbox.specs.steps.Statement.{found_text, note_text, append_text, status_text, page_text, all_rows_text, all_orders_text, service_row_text}
 
 -- the text is this command, plain and without the list of the schema
 abbrev pub Means : ServiceLayout → List ℕ → Command → Type 0
-Means l text command = (command_of (understood (schema_in l) text) ≡ command) × IsPlain (understood (schema_in l) text) × (reads_listing (schema_in l) text ≡ false)
+Means l text command = (command_of (understood (schema_in_layout l) text) ≡ command) × IsPlain (understood (schema_in_layout l) text) × (reads_listing (schema_in_layout l) text ≡ false)
 
 -- the place of `service` among the tables
 abbrev pub first_table : ServiceLayout → ℕ

@@ -6,14 +6,14 @@ use Rattle.database_layout.proofs.LayoutLemmas.{same_inbox}
 use Rattle.outbox.specs.Order.{Accepted}
 use Rattle.outbox.specs.Layout.{first_tree}
 use Rattle.outbox.specs.Service.{AreOrders, outbox_row}
-use Rattle.outbox.specs.steps.Change.{Adds, MayAdd}
+use Rattle.outbox.specs.steps.Change.{AddsCommand, MayAdd}
 use Rattle.outbox.proofs.PutLemmas.{appended, accepted_snoc}
 use Rattle.outbox.proofs.NoteLemmas.{note_params, notes}
 use Rattle.outbox.proofs.InsertLemmas.{append_params, appends}
 use Rattle.outbox.proofs.TextLemmas.{note_text, append_text}
 
 pub both : (old mid last : State) (number : ℕ) (c : Accepted) (m n : ℕ) → ExecutesInside 0 note_text (note_params c) old mid (Ok m) → ExecutesInside 0 append_text (append_params number c) mid last (Ok n)
-    → Adds number c old.now last.now
+    → AddsCommand number c old.now last.now
 both old mid last number c m n one two source base commands is command ok box =
     let a = notes old mid box.layout commands c m box.schema box.orders one.0 in
     let b = appends mid last box.layout number c n a.0 two.0 in
@@ -36,7 +36,7 @@ both old mid last number c m n one two source base commands is command ok box =
       sound = b.2;
     }
 
-pub ends : (old mid last end : State) (number : ℕ) (c : Accepted) → (HasCleanDisk last → Adds number c old.now last.now) → Survives old mid (λ _. ⊥) → Survives mid last (λ _. ⊥)
+pub ends : (old mid last end : State) (number : ℕ) (c : Accepted) → (HasCleanDisk last → AddsCommand number c old.now last.now) → Survives old mid (λ _. ⊥) → Survives mid last (λ _. ⊥)
     → Survives last end (λ db. db ≡ last.now.trees) → Survives old end (MayAdd number c old)
 ends old mid last end number c adds one two three =
     survives_then old last end (λ _. ⊥) _ (MayAdd number c old) (λ _ db none. absurd none) (λ clean db is. (last.now, adds (omega (arith, three.clean)), is))

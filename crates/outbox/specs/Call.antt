@@ -3,18 +3,19 @@ use Rattle.std.specs.Prelude.{◌≡◌, ◌≢◌, ◌⊎◌, ◌<◌, ◌≤�
 use Rattle.sqlite_trees.specs.Tree.{Trees}
 use Rattle.sqlite_trees.specs.View.{doubt}
 use Rattle.sqlite.specs.Effect.{Database, IsDatabase}
-use Rattle.sqlite.specs.State.{State, HasCleanDisk}
+use Rattle.sqlite.specs.State.{State, HasCleanDisk, Survives}
 use Rattle.attributes.specs.Event.{EventValue}
 use Rattle.attributes.specs.Sequence.{max_sequence}
 use Rattle.database_layout.specs.Beside.{GainsTables, KeepsBeside}
 use Rattle.outbox.specs.Order.{Accepted, refusal}
 use Rattle.outbox.specs.Row.{row_event, rows_after}
 use Rattle.outbox.specs.Service.{IsService}
-use Rattle.outbox.specs.Layout.{ServiceLayout, schema_in}
+use Rattle.outbox.specs.Layout.{ServiceLayout, schema_in_layout}
 use Rattle.outbox.specs.Shown.{Shown}
 use Rattle.outbox.specs.declared.fault.OutboxFault.TheVariants.{Foreign, OutOfMemory, Store}
 use Rattle.outbox.specs.declared.status.Status.{Status}
 use Rattle.outbox.specs.declared.fault.OutboxFault.{OutboxFault}
+pub use Rattle.database_layout.specs.States.{IsAsItWas, IsSettled}
 
 -- a service with this source and base accepted the command: nothing refused it, it is now the last
 -- one, and the event is that of its row
@@ -25,8 +26,8 @@ Accepts source base c old new e = (commands : List Accepted) → IsService old s
     × (e ≡ row_event source (suc (base + length commands)) c)
 
 -- a service with this source and base refuses the command for this fault
-abbrev pub Refuses : List ℕ → ℕ → Status → ℕ → Database → OutboxFault → Type 0
-Refuses source base status order db f = (commands : List Accepted)
+abbrev pub RefusesCommand : List ℕ → ℕ → Status → ℕ → Database → OutboxFault → Type 0
+RefusesCommand source base status order db f = (commands : List Accepted)
     → IsService db source base commands → refusal base commands status order ≡ Some f
 
 -- these are the rows after a number, of a service with this source and base
@@ -34,24 +35,20 @@ abbrev pub ShowsAfter : List ℕ → ℕ → ℕ → ℕ → Database → List E
 ShowsAfter source base number limit db events = (commands : List Accepted)
     → IsService db source base commands → events ≡ rows_after source base commands number limit
 
--- while the disk is honest and the database open, it shows what it showed
-abbrev pub IsAsItWas : State → State → Type 0
-IsAsItWas old new = HasCleanDisk new → IsTrue new.is_open → new.now ≡ old.now
-
 -- a reading: no fault is forgotten, only an open database is open after it, and, while the disk is
 -- honest and the database open, that of a service is as it was
-pub record IsSame (old new : State) : Type 0 where
+pub record IsServiceReading (old new : State) : Type 0 where
   pub clean : doubt old.is_clean ≤ doubt new.is_clean
   pub was_open : HasCleanDisk new → IsTrue new.is_open → IsTrue old.is_open
   pub same : HasCleanDisk new → IsTrue new.is_open → (layout : ServiceLayout)
-      → old.now.schema ≡ schema_in layout
+      → old.now.schema ≡ schema_in_layout layout
       → (new.now ≡ old.now) × (new.committed ≡ old.committed)
 
 -- where the tables are those of a service, a crash leaves what it could leave before, whether the
 -- call was refused or not
 abbrev pub LeavesAsBefore : State → State → Type 0
 LeavesAsBefore old new = HasCleanDisk new → (layout : ServiceLayout)
-    → old.now.schema ≡ schema_in layout → (db : Trees) → new.may_leave db → old.may_leave db
+    → old.now.schema ≡ schema_in_layout layout → (db : Trees) → new.may_leave db → old.may_leave db
 
 -- no fault of the disk is forgotten, and while it is honest the database is as it was, and a crash
 -- leaves what it could leave before
@@ -59,10 +56,6 @@ pub record Leaves (old new : State) : Type 0 where
   pub clean : doubt old.is_clean ≤ doubt new.is_clean
   pub same : HasCleanDisk new → IsTrue new.is_open → new.now ≡ old.now
   pub crash : HasCleanDisk new → (db : Trees) → new.may_leave db → old.may_leave db
-
--- after this a crash leaves the last commit alone
-abbrev pub IsSettled : State → Type 0
-IsSettled s = IsTrue s.is_open → (db : Trees) → s.may_leave db → db ≡ s.now.trees
 
 -- a service without commands was made in the database, beside what was there
 pub record IsFounded (source : List ℕ) (base : ℕ) (old new : Database) : Type 0 where
@@ -111,8 +104,22 @@ pub record CommandEffect {S : Type 0} (c : Accepted) (was : Shown S) (old new : 
   -- refused: the fault is that of the definition, want of memory or the store's, and the database
   -- is as it was
   pub refused : IsTrue new.is_open → IfErr result (λ f. f ≢ OutOfMemory → f ≢ Store
-      → Refuses was.source was.base c.status c.order old.now f)
+      → RefusesCommand was.source was.base c.status c.order old.now f)
   pub same : IsTrue new.is_open → OnErr result (new.now ≡ old.now)
   -- at whichever exit, a crash leaves what it could leave before, or the command accepted
   pub crash : IsTrue old.is_open → (db : Trees) → new.may_leave db
       → old.may_leave db ⊎ MayAccept was.source was.base c old.now db
+
+-- where it was done, the database was open, and is
+abbrev pub OpenThroughout : {A E : Type 0} → State → State → Result A E → Type 0
+OpenThroughout old new result = HasCleanDisk new
+    → OnOk result (IsTrue old.is_open × IsTrue new.is_open)
+
+-- where it was done, a service was founded
+abbrev pub FoundsIfDone : {A E : Type 0} → List ℕ → ℕ → State → State → Result A E → Type 0
+FoundsIfDone source base old new result = HasCleanDisk new
+    → OnOk result (IsFounded source base old.now new.now)
+
+-- what a crash may leave of a founding
+abbrev pub LeavesFounding : List ℕ → ℕ → State → State → Type 0
+LeavesFounding source base old new = Survives old new (MayFound source base old.now)

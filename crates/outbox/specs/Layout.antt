@@ -9,8 +9,8 @@ abbrev pub ServiceLayout : Type 0
 ServiceLayout = (l : Layout) × HasService l
 
 -- the schema of a file with it
-abbrev pub schema_in : ServiceLayout → Schema
-schema_in l = whole_schema l.0
+abbrev pub schema_in_layout : ServiceLayout → Schema
+schema_in_layout l = whole_schema l.0
 
 -- the number of the tree that holds the first of its three tables; those of the others follow it
 abbrev pub first_tree : ServiceLayout → ℕ
@@ -18,4 +18,4 @@ first_tree l = service_tree l.0
 
 -- the schema is that of no such file: it has other tables too, or others in their place
 abbrev pub IsOthers : Schema → Type 0
-IsOthers schema = (l : ServiceLayout) → schema ≢ schema_in l
+IsOthers schema = (l : ServiceLayout) → schema ≢ schema_in_layout l

@@ -7,7 +7,7 @@ use Rattle.database_layout.specs.Layout.{has_name, lacks_name}
 use Rattle.outbox.specs.Order.{Accepted}
 use Rattle.outbox.specs.Service.{IsService}
 use Rattle.outbox.specs.Layout.{IsOthers}
-use Rattle.outbox.specs.Shown.{HasNoOther, IsNoService, Shown, Stands}
+use Rattle.outbox.specs.Shown.{HasNoOther, IsNoService, Shown, StandsWithRows}
 use Rattle.outbox.specs.Call.{IsAsItWas, IsFounded, IsSettled, Leaves, MayFound}
 use Rattle.outbox.specs.declared.fault.OutboxFault.{OutboxFault}
 use Rattle.outbox.specs.declared.fault.OutboxFault.TheVariants.{Foreign, OutOfMemory, Store}
@@ -19,7 +19,7 @@ LeavesOrMakes source base old new = HasCleanDisk new → (db : Trees) → new.ma
     → old.may_leave db ⊎ ((has_name old.now.schema ≡ false) × MayFound source base old.now db)
 
 -- a service was opened, with this source and base where none was there
-pub record Opens {S : Type 0} (source : List ℕ) (base : ℕ) (old : State) (is : Shown S)
+pub record OpensService {S : Type 0} (source : List ℕ) (base : ℕ) (old : State) (is : Shown S)
     (new : State) : Type 0 where
   -- no fault of the disk is forgotten
   pub clean : doubt old.is_clean ≤ doubt new.is_clean
@@ -36,14 +36,14 @@ pub record Opens {S : Type 0} (source : List ℕ) (base : ℕ) (old : State) (is
   pub made : HasCleanDisk new → has_name old.now.schema ≡ false
       → IsFounded source base old.now new.now
   -- either way the tables are those of the service, the connection is open, and a crash leaves them
-  pub stands : HasCleanDisk new → Stands new.now is.source is.base is.last
+  pub stands : HasCleanDisk new → StandsWithRows new.now is.source is.base is.last
   pub stays_open : HasCleanDisk new → IsTrue new.is_open
   pub settled : HasCleanDisk new → IsSettled new
   -- whichever it was, a crash leaves one of the two
   pub crash : LeavesOrMakes source base old new
 
 -- no service was opened, for this fault
-pub record IsRefused (source : List ℕ) (base : ℕ) (old new : State) (f : OutboxFault) : Type 0 where
+pub record IsOpeningRefused (source : List ℕ) (base : ℕ) (old new : State) (f : OutboxFault) : Type 0 where
   -- no fault of the disk is forgotten, and the database is as it was
   pub clean : doubt old.is_clean ≤ doubt new.is_clean
   pub same : IsAsItWas old new

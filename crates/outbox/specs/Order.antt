@@ -14,6 +14,14 @@ pub record Accepted : Type 0 where
   pub order : ℕ
   pub at : List ℕ
 
+-- an order may have this number
+abbrev pub IsOrder : ℕ → Type 0
+IsOrder order = (1 ≤ order) × (order ≤ max_sequence)
+
+-- a command's time may have so many bytes
+abbrev pub IsShortTime : List ℕ → Type 0
+IsShortTime at = length at ≤ 64
+
 -- the order is in 1..=2^63-1, and the time is a text, one of RFC 3339, and has at most 64 bytes
 pub record IsCommand (c : Accepted) : Type 0 where
   pub low : 1 ≤ c.order

@@ -5,7 +5,7 @@ use Rattle.sqlite_value.specs.Order.{Row}
 use Rattle.sqlite_rules.specs.Lists.{Has}
 use Rattle.sqlite.specs.Effect.{Database}
 use Rattle.outbox.specs.Order.{Accepted, status_of, AreAccepted}
-use Rattle.outbox.specs.Layout.{ServiceLayout, first_tree, schema_in}
+use Rattle.outbox.specs.Layout.{ServiceLayout, first_tree, schema_in_layout}
 use Rattle.outbox.specs.declared.status.Status.{Status}
 use Rattle.outbox.specs.declared.status.Status.TheVariants.{Placed, Shipped, Cancelled}
 
@@ -45,7 +45,7 @@ pub record AreOrders (rows : List Row) (commands : List Accepted) : Type 0 where
 pub record IsService (db : Database) (source : List ℕ) (base : ℕ) (commands : List Accepted)
     : Type 0 where
   pub layout : ServiceLayout
-  pub schema : db.schema ≡ schema_in layout
+  pub schema : db.schema ≡ schema_in_layout layout
   pub service : db.trees (first_tree layout) ≡ service_row source base ∷ []
   pub orders : AreOrders (db.trees (suc (first_tree layout))) commands
   pub outbox :

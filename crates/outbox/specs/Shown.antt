@@ -17,8 +17,12 @@ pub record Shown (S : Type 0) : Type 0 where
   pub base : ℕ
   pub last : ℕ
 
-abbrev pub shown_code : {S : Type 0} → Coded S → Coded (Shown S)
-shown_code {S} store = code_by (Held S × (List ℕ × (ℕ × ℕ)))
+-- the source, the base and the last row of a service stay
+abbrev pub IsSameService : {S : Type 0} → Shown S → Shown S → Type 0
+IsSameService old new = (new.source ≡ old.source) × (new.base ≡ old.base) × (new.last ≡ old.last)
+
+abbrev pub service_code : {S : Type 0} → Coded S → Coded (Shown S)
+service_code {S} store = code_by (Held S × (List ℕ × (ℕ × ℕ)))
     (coded× (held_code store) (coded× (coded_list coded_ℕ) (coded× coded_ℕ coded_ℕ)))
     (λ s. (s.conn, (s.source, (s.base, s.last))))
     (λ p. record { conn = p.0; source = p.1.0; base = p.1.1.0; last = p.1.1.1 }) (λ _. refl)
@@ -26,6 +30,11 @@ shown_code {S} store = code_by (Held S × (List ℕ × (ℕ × ℕ)))
 -- the most bytes that a source may have
 abbrev pub max_source : ℕ
 max_source = 1024
+
+-- a text may be a service's source: at least one character, none of them a control character, and
+-- at most 1,024 bytes
+abbrev pub IsSource : List ℕ → Type 0
+IsSource source = (is_filled source ≡ true) × (length source ≤ max_source)
 
 -- the source is a text of at least one character, with no control character and at most 1,024
 -- bytes, and the base is in 0..=2^63-1
@@ -47,7 +56,7 @@ HasNoOther db source base = (s : List ℕ) (b : ℕ) (commands : List Accepted)
     → IsService db s b commands → (source ≡ s) × (base ≡ b)
 
 -- the database is that of a service with so many rows
-pub record Stands (db : Database) (source : List ℕ) (base last : ℕ) : Type 0 where
+pub record StandsWithRows (db : Database) (source : List ℕ) (base last : ℕ) : Type 0 where
   pub commands : List Accepted
   pub table : IsService db source base commands
   pub count : last ≡ base + length commands
@@ -64,12 +73,12 @@ CountsRows db source base n = (commands : List Accepted)
 
 -- the source is allowed and the numbers are in range; and while the disk is honest and the
 -- database open, it is that of the service
-pub record StandsFor (s : State) (source : List ℕ) (base last : ℕ) : Type 0 where
+pub record StandsForService (s : State) (source : List ℕ) (base last : ℕ) : Type 0 where
   pub filled : is_filled source ≡ true
   pub short : length source ≤ max_source
   pub low : base ≤ last
   pub high : last ≤ max_sequence
-  pub stands : HasCleanDisk s → IsTrue s.is_open → Stands s.now source base last
+  pub stands : HasCleanDisk s → IsTrue s.is_open → StandsWithRows s.now source base last
 
 -- each order has a row; and while the disk is honest and the database open, so many are its orders
 pub record KeepsCount (s : State) (source : List ℕ) (base last orders : ℕ) : Type 0 where

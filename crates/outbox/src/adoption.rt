@@ -13,13 +13,14 @@ ghost use Rattle.attributes.specs.Sequence.{max_sequence};
 ghost use Rattle.attributes.specs.Time.{time_day};
 ghost use Rattle.outbox.specs.Order.{Accepted, AreAccepted, IsCommand, status_of};
 ghost use Rattle.database_layout.specs.Layout.{HasService, lacks_name, schema_in as whole_schema};
-ghost use Rattle.outbox.specs.Shown.{CountsOrders, HasNoOther, IsAllowed, IsNoService, Stands, StandsFor, max_source};
-ghost use Rattle.outbox.specs.Call.{IsSame, IsSettled, Leaves, LeavesAsBefore};
-ghost use Rattle.outbox.specs.steps.Change.{ShowOrders, shown_row, shown_rows, shown_service};
-ghost use Rattle.outbox.specs.steps.Rest.{HasCommitted};
+ghost use Rattle.outbox.specs.Shown.{CountsOrders, HasNoOther, IsAllowed, IsNoService, StandsWithRows, StandsForService, max_source};
+ghost use Rattle.outbox.specs.Call.{IsServiceReading, IsSettled, Leaves, LeavesAsBefore, OpenThroughout};
+ghost use Rattle.outbox.specs.steps.Change.{ShowOrders, stored_row, stored_rows, shown_service};
+ghost use Rattle.outbox.specs.steps.Rest.{CommitsIfDone, HasCommitted};
 ghost use Rattle.outbox.specs.steps.Replay.{IsReplay};
 ghost use Rattle.outbox.specs.declared.fault.OutboxFault.TheVariants.{OutOfMemory, Store, Foreign};
-ghost use Rattle.outbox.specs.Layout.{IsOthers, ServiceLayout, schema_in};
+ghost use Rattle.outbox.specs.Layout.{IsOthers, ServiceLayout, schema_in_layout};
+ghost use Rattle.database_layout.specs.States.{ShowsCommitIfDone};
 
 use crate::fault::OutboxFault;
 use crate::service::{NotMade, Service};
@@ -57,12 +58,12 @@ fn is_time(alloc: Global, text: &str) -> Result<bool, OutboxFault>
 
 /// The command of a row that has this number, where a call can have left the row so.
 fn command_in(alloc: Global, row: &Row, number: u64) -> Result<Option<Stored<'_>>, OutboxFault>
-    ensures row { IfOk result (λ o. IfSome o (λ s. row.now ≡ shown_row number
+    ensures row { IfOk result (λ o. IfSome o (λ s. row.now ≡ stored_row number
         (record { status = s.status; order = s.order; at = s.at.now }))) }
     ensures command { IfOk result (λ o. IfSome o (λ s. IsCommand
         (record { status = s.status; order = s.order; at = s.at.now }))) }
     ensures none { IfOk result (λ o. IfNone o ((c : Accepted) → IsCommand c
-        → row.now ≢ shown_row number c)) }
+        → row.now ≢ stored_row number c)) }
     ensures fault { IfErr result (λ f. f ≡ OutOfMemory) }
 {
     let Some(stored) = read_row(row) else {
@@ -100,7 +101,7 @@ pub(crate) fn replay(
     ensures range { IfOk result (λ o. IfSome o (λ r. (base + r.orders ≤ r.last)
         × (r.last ≤ max_sequence))) }
     ensures none { IfOk result (λ o. IfNone o ((commands : List Accepted)
-        → AreAccepted base [] commands → rows.now ≢ shown_rows (suc base) commands)) }
+        → AreAccepted base [] commands → rows.now ≢ stored_rows (suc base) commands)) }
     ensures fault { IfErr result (λ f. f ≡ OutOfMemory) }
 {
     let mut statuses = BTreeMap::new(alloc);
@@ -195,16 +196,14 @@ fn service_in(alloc: Global, rows: &[Row]) -> Result<Option<(Text, u64)>, Outbox
 
 /// The rows that a question with no parameter shows.
 fn all_of<S: Alter>(conn: &mut Connection<S>, sql: &str) -> Result<Vec<Row>, OutboxFault>
-    requires plain { (layout : ServiceLayout) → IsPlain (understood (schema_in layout) sql.now) }
+    requires plain { (layout : ServiceLayout) → IsPlain (understood (schema_in_layout layout) sql.now) }
     ensures shown { HasCleanDisk (state S.Store conn.new) → IfOk result (λ rows.
         Shown sql.now [] (state S.Store conn.old) (state S.Store conn.new) rows.items) }
     ensures crash { LeavesAsBefore (state S.Store conn.old) (state S.Store conn.new) }
-    ensures same { IsSame (state S.Store conn.old) (state S.Store conn.new) }
+    ensures same { IsServiceReading (state S.Store conn.old) (state S.Store conn.new) }
     ensures live { IsLive (state S.Store conn.old) }
-    ensures open { HasCleanDisk (state S.Store conn.new) → OnOk result
-        (IsTrue (state S.Store conn.old).is_open × IsTrue (state S.Store conn.new).is_open) }
-    ensures settled { HasCleanDisk (state S.Store conn.new)
-        → OnOk result (HasCommitted (state S.Store conn.old) (state S.Store conn.new)) }
+    ensures open { OpenThroughout (state S.Store conn.old) (state S.Store conn.new) result }
+    ensures settled { CommitsIfDone (state S.Store conn.old) (state S.Store conn.new) result }
     ensures fault { IfErr result (λ f. (f ≡ OutOfMemory) ⊎ (f ≡ Store)) }
 {
     let _schema = conn.schema();
@@ -224,7 +223,7 @@ pub(crate) fn found_in<S: Alter>(
     requires schema { (state S.Store conn.old).now.schema ≡ whole_schema layout }
     ensures stands { HasCleanDisk (state S.Store conn.new) → IfOk result (λ o. IfSome o (λ f.
         IsTrue (state S.Store conn.new).is_open
-        → Stands (state S.Store conn.new).now f.source f.base f.last)) }
+        → StandsWithRows (state S.Store conn.new).now f.source f.base f.last)) }
     ensures counts { HasCleanDisk (state S.Store conn.new) → IfOk result (λ o. IfSome o (λ f.
         IsTrue (state S.Store conn.new).is_open
         → CountsOrders (state S.Store conn.new).now f.source f.base f.orders)) }
@@ -276,7 +275,7 @@ pub(crate) fn found_in<S: Alter>(
 fn read<S: Alter>(alloc: Global, conn: &mut Connection<S>) -> Result<Found, OutboxFault>
     ensures stands { HasCleanDisk (state S.Store conn.new) → IfOk result (λ f.
         IsTrue (state S.Store conn.new).is_open
-        → Stands (state S.Store conn.new).now f.source f.base f.last) }
+        → StandsWithRows (state S.Store conn.new).now f.source f.base f.last) }
     ensures counts { HasCleanDisk (state S.Store conn.new) → IfOk result (λ f.
         IsTrue (state S.Store conn.new).is_open
         → CountsOrders (state S.Store conn.new).now f.source f.base f.orders) }
@@ -290,8 +289,7 @@ fn read<S: Alter>(alloc: Global, conn: &mut Connection<S>) -> Result<Found, Outb
         → IfOk result (λ f. HasNoOther (state S.Store conn.old).now f.source f.base) }
     ensures open { HasCleanDisk (state S.Store conn.new)
         → OnOk result (IsTrue (state S.Store conn.new).is_open) }
-    ensures settled { HasCleanDisk (state S.Store conn.new) → OnOk result (
-        (state S.Store conn.new).now ≡ (state S.Store conn.new).committed) }
+    ensures settled { ShowsCommitIfDone (state S.Store conn.new) result }
     ensures missing { lacks_name (state S.Store conn.old).now.schema ≡ true → result ≡ Err Foreign }
     ensures strange { lacks_name (state S.Store conn.old).now.schema ≡ false
         → IsOthers (state S.Store conn.old).now.schema → result ≢ Err Foreign }
@@ -322,7 +320,7 @@ impl<S: Alter + Drop> Service<S> {
     /// Reads all rows once; time and memory in proportion to them.
     pub fn adopt(alloc: Global, conn: Connection<S>) -> Result<Service<S>, NotMade<S>>
         ensures stands { IfOk result (λ s.
-            StandsFor (state S.Store s.conn) s.source s.base s.last) }
+            StandsForService (state S.Store s.conn) s.source s.base s.last) }
         ensures left { IfOk result (λ s. Leaves (state S.Store conn) (state S.Store s.conn)) }
         ensures back { IfErr result (λ e. Leaves (state S.Store conn) (state S.Store e.conn)) }
         ensures foreign { IfErr result (λ e. HasCleanDisk (state S.Store e.conn)

@@ -1,17 +1,16 @@
 //! The tables of a new service.
 
-ghost use Rattle.std.specs.Prelude.{◌≡◌, ◌<◌, ◌≤◌, ◌^◌, ◌⊎◌, ◌∷◌, [], IsTrue, true, List, ℕ, length, pos, OnOk, OnErr, IfOk, IfErr};
+ghost use Rattle.std.specs.Prelude.{◌≡◌, ◌<◌, ◌≤◌, ◌^◌, ◌⊎◌, ◌∷◌, [], IsTrue, true, List, ℕ, pos, OnOk, OnErr, IfOk, IfErr};
 ghost use Rattle.std.specs.Result.{IsErrAnd};
 ghost use Rattle.sqlite_value.specs.declared.value.Value.TheVariants.{Int, Text as Words};
-ghost use Rattle.sqlite.specs.State.{HasCleanDisk, ExecutesInside, KeepsCommit, Survives};
+ghost use Rattle.sqlite.specs.State.{HasCleanDisk, ExecutesInside, Survives};
 ghost use Rattle.sqlite.specs.Held.{state};
-ghost use Rattle.attributes.specs.Character.{is_filled};
 ghost use Rattle.attributes.specs.Sequence.{max_sequence};
 ghost use Rattle.database_layout.specs.Layout.{GainsService, has_name, schema_in};
 ghost use Rattle.outbox.specs.Order.{Accepted};
 ghost use Rattle.outbox.specs.Service.{IsService};
-ghost use Rattle.outbox.specs.Shown.{max_source};
-ghost use Rattle.outbox.specs.Call.{IsAsItWas, IsFounded, IsSettled, MayFound};
+ghost use Rattle.outbox.specs.Shown.{IsSource};
+ghost use Rattle.outbox.specs.Call.{FoundsIfDone, IsAsItWas, IsFounded, IsSettled, LeavesFounding, MayFound};
 ghost use Rattle.outbox.specs.steps.Statement.{found_text};
 ghost use Rattle.outbox.specs.declared.fault.OutboxFault.TheVariants.{OutOfMemory, Store, Foreign};
 
@@ -56,16 +55,14 @@ fn found<S: Alter>(
     requires gains { GainsService before after }
     requires room { (state S.Store conn.old).now.schema ≡ schema_in before }
     requires base { base < 2 ^ 63 }
-    ensures made { HasCleanDisk (state S.Store conn.new) → OnOk result (IsFounded source.now base
-        (state S.Store conn.old).now (state S.Store conn.new).now) }
+    ensures made { FoundsIfDone source.now base (state S.Store conn.old) (state S.Store conn.new) result }
     ensures open { HasCleanDisk (state S.Store conn.new)
         → OnOk result (IsTrue (state S.Store conn.new).is_open) }
     ensures committed { HasCleanDisk (state S.Store conn.new)
         → OnOk result ((state S.Store conn.new).committed ≡ (state S.Store conn.new).now) }
     ensures same { HasCleanDisk (state S.Store conn.new) → IsTrue (state S.Store conn.new).is_open
         → OnErr result ((state S.Store conn.new).now ≡ (state S.Store conn.old).now) }
-    ensures crash { Survives (state S.Store conn.old) (state S.Store conn.new)
-        (MayFound source.now base (state S.Store conn.old).now) }
+    ensures crash { LeavesFounding source.now base (state S.Store conn.old) (state S.Store conn.new) }
 {
     if !conn.is_autocommit() {
         return Err(Error::SqliteFailure(ErrorCode::TransactionState));
@@ -84,15 +81,13 @@ fn found_in_room<S: Alter>(
     base: u64,
 ) -> Result<(), OutboxFault>
     requires { base ≤ max_sequence }
-    ensures made { HasCleanDisk (state S.Store conn.new) → OnOk result (IsFounded source.now base
-        (state S.Store conn.old).now (state S.Store conn.new).now) }
+    ensures made { FoundsIfDone source.now base (state S.Store conn.old) (state S.Store conn.new) result }
     ensures open { HasCleanDisk (state S.Store conn.new)
         → OnOk result (IsTrue (state S.Store conn.new).is_open) }
     ensures committed { HasCleanDisk (state S.Store conn.new)
         → OnOk result ((state S.Store conn.new).committed ≡ (state S.Store conn.new).now) }
     ensures same { OnErr result (IsAsItWas (state S.Store conn.old) (state S.Store conn.new)) }
-    ensures crash { Survives (state S.Store conn.old) (state S.Store conn.new)
-        (MayFound source.now base (state S.Store conn.old).now) }
+    ensures crash { LeavesFounding source.now base (state S.Store conn.old) (state S.Store conn.new) }
     ensures fault { IfErr result (λ f. (f ≡ OutOfMemory) ⊎ (f ≡ Store)) }
 {
     let Some(before) = Layout::of(conn.schema()) else {
@@ -121,7 +116,7 @@ impl<S: Alter + Drop> Service<S> {
         source: &Text,
         base: u64,
     ) -> Result<Service<S>, NotMade<S>>
-        requires source { (is_filled source.now ≡ true) × (length source.now ≤ max_source) }
+        requires source { IsSource source.now }
         requires base { base ≤ max_sequence }
         ensures made { IfOk result (λ s. HasCleanDisk (state S.Store s.conn)
             → IsFounded source.now base (state S.Store conn).now (state S.Store s.conn).now) }

@@ -1,13 +1,12 @@
 //! The service of a database, whether it is there or not.
 
-ghost use Rattle.std.specs.Prelude.{◌≡◌, ◌≤◌, true, length, IfErr, IfOk};
+ghost use Rattle.std.specs.Prelude.{◌≡◌, ◌≤◌, true, IfErr, IfOk};
 ghost use Rattle.std.specs.Result.{IsErrAnd};
 ghost use Rattle.sqlite.specs.Held.{state};
-ghost use Rattle.attributes.specs.Character.{is_filled};
 ghost use Rattle.attributes.specs.Sequence.{max_sequence};
 ghost use Rattle.database_layout.specs.Layout.{has_name, lacks_name};
-ghost use Rattle.outbox.specs.Shown.{max_source};
-ghost use Rattle.outbox.specs.Opening.{IsRefused, Opens};
+ghost use Rattle.outbox.specs.Shown.{IsSource};
+ghost use Rattle.outbox.specs.Opening.{IsOpeningRefused, OpensService};
 ghost use Rattle.outbox.specs.declared.fault.OutboxFault.TheVariants.{Foreign};
 
 use crate::service::{NotMade, Service};
@@ -32,11 +31,11 @@ impl<S: Alter + Drop> Service<S> {
         source: &Text,
         base: u64,
     ) -> Result<Service<S>, NotMade<S>>
-        requires source { (is_filled source.now ≡ true) × (length source.now ≤ max_source) }
+        requires source { IsSource source.now }
         requires base { base ≤ max_sequence }
-        ensures opened { IfOk result (λ s. Opens source.now base
+        ensures opened { IfOk result (λ s. OpensService source.now base
             (state S.Store conn) s (state S.Store s.conn)) }
-        ensures refused { IfErr result (λ e. IsRefused source.now base
+        ensures refused { IfErr result (λ e. IsOpeningRefused source.now base
             (state S.Store conn) (state S.Store e.conn) e.fault) }
 
         // Where some are there and others missing, this is found before any memory is asked for.

@@ -6,12 +6,12 @@ ghost use Rattle.sqlite_value.specs.Order.{column};
 ghost use Rattle.sqlite.specs.State.{HasCleanDisk};
 ghost use Rattle.sqlite.specs.Held.{state};
 ghost use Rattle.attributes.specs.Sequence.{max_sequence};
-ghost use Rattle.outbox.specs.Order.{Accepted, status_of, refusal};
+ghost use Rattle.outbox.specs.Order.{Accepted, status_of, refusal, IsOrder, IsShortTime};
 ghost use Rattle.outbox.specs.Row.{row_event, events_from};
 ghost use Rattle.outbox.specs.Service.{code, IsService};
-ghost use Rattle.outbox.specs.Shown.{CountsOrders, CountsRows, StandsFor};
-ghost use Rattle.outbox.specs.Call.{CommandCall, CommandEffect, IsSame, IsSettled, LeavesAsBefore, ShowsAfter};
-ghost use Rattle.outbox.specs.steps.Change.{shown_row, shown_rows};
+ghost use Rattle.outbox.specs.Shown.{CountsOrders, CountsRows, StandsForService};
+ghost use Rattle.outbox.specs.Call.{CommandCall, CommandEffect, IsServiceReading, IsSettled, LeavesAsBefore, ShowsAfter};
+ghost use Rattle.outbox.specs.steps.Change.{stored_row, stored_rows};
 ghost use Rattle.outbox.specs.declared.fault.OutboxFault.TheVariants.{OutOfMemory, Store, Foreign};
 ghost use Rattle.outbox.specs.declared.status.Status.TheVariants.{Placed, Shipped, Cancelled};
 
@@ -41,15 +41,15 @@ pub struct Service<S: Alter> {
 
 impl<S: Alter> Model for Service<S> {
     ghost use Rattle.sqlite.specs.Held.{state};
-    ghost use Rattle.outbox.specs.Shown.{KeepsCount, Shown, shown_code, StandsFor};
+    ghost use Rattle.outbox.specs.Shown.{KeepsCount, Shown, service_code, StandsForService};
 
     ghost Value = { Shown S };
 
-    ghost coded = { shown_code S.code };
+    ghost coded = { service_code S.code };
 
     ghost view = { λ t. record { conn = t.conn; source = t.source; base = t.base; last = t.last } };
 
-    ghost invariant = { λ t. StandsFor (state S.Store t.conn) t.source t.base t.last
+    ghost invariant = { λ t. StandsForService (state S.Store t.conn) t.source t.base t.last
         × KeepsCount (state S.Store t.conn) t.source t.base t.last t.orders };
 }
 
@@ -76,7 +76,7 @@ pub struct NotMade<S: Alter + Drop> {
 /// The event of a row of `outbox`.
 fn stored_event(alloc: Global, source: &str, row: &Row) -> Result<Sequenced, OutboxFault>
     ensures event { IfOk result (λ e. (number : ℕ) (c : Accepted)
-        → row.now ≡ shown_row number c → e ≡ row_event source.now number c) }
+        → row.now ≡ stored_row number c → e ≡ row_event source.now number c) }
     ensures fault { IfErr result (λ f. (f ≡ OutOfMemory) ⊎ (f ≡ Store)) }
 {
     match read_row(row) {
@@ -95,7 +95,7 @@ fn stored_event(alloc: Global, source: &str, row: &Row) -> Result<Sequenced, Out
 /// The events of rows of `outbox`.
 fn stored_events(alloc: Global, source: &str, rows: &[Row]) -> Result<Batch, OutboxFault>
     ensures events { IfOk result (λ batch. (number : ℕ) (commands : List Accepted)
-        → rows.now ≡ shown_rows number commands
+        → rows.now ≡ stored_rows number commands
         → batch ≡ events_from source.now number commands) }
     ensures fault { IfErr result (λ f. (f ≡ OutOfMemory) ⊎ (f ≡ Store)) }
 {
@@ -120,7 +120,7 @@ fn status_in<S: Alter>(conn: &mut Connection<S>, order: u64) -> Result<Option<St
     ensures open { HasCleanDisk (state S.Store conn.new)
         → OnOk result (IsTrue (state S.Store conn.new).is_open) }
     ensures crash { LeavesAsBefore (state S.Store conn.old) (state S.Store conn.new) }
-    ensures same { IsSame (state S.Store conn.old) (state S.Store conn.new) }
+    ensures same { IsServiceReading (state S.Store conn.old) (state S.Store conn.new) }
     ensures fault { IfErr result (λ f. (f ≡ OutOfMemory) ⊎ (f ≡ Store)) }
 {
     let rows = status_rows(conn, order)?;
@@ -157,7 +157,7 @@ fn decide<S: Alter>(
         → refusal base commands status order ≡ Some f) }
     ensures fault { IfErr result (λ f. f ≢ Foreign) }
     ensures crash { LeavesAsBefore (state S.Store conn.old) (state S.Store conn.new) }
-    ensures same { IsSame (state S.Store conn.old) (state S.Store conn.new) }
+    ensures same { IsServiceReading (state S.Store conn.old) (state S.Store conn.new) }
 {
     let found = status_in(conn, order)?;
     match status.fault_after(found) {
@@ -182,7 +182,7 @@ impl<S: Alter> Service<S> {
     /// bytes.
     pub fn source(&self) -> &Text
         ensures source { result.now ≡ self.now.source }
-        ensures stands { StandsFor (state S.Store self.now.conn)
+        ensures stands { StandsForService (state S.Store self.now.conn)
             self.now.source self.now.base self.now.last }
     {
         &self.source
@@ -191,7 +191,7 @@ impl<S: Alter> Service<S> {
     /// The number before that of its first row, in 0..=2^63-1.
     pub fn base(&self) -> u64
         ensures base { result ≡ self.now.base }
-        ensures stands { StandsFor (state S.Store self.now.conn)
+        ensures stands { StandsForService (state S.Store self.now.conn)
             self.now.source self.now.base self.now.last }
     {
         self.base
@@ -262,8 +262,8 @@ impl<S: Alter> Service<S> {
 
     /// Decides on a command, makes its event, and only then writes.
     fn accept(&mut self, status: Status, order: u64, at: &Moment) -> Result<Sequenced, OutboxFault>
-        requires order { (1 ≤ order) × (order ≤ max_sequence) }
-        requires short { length at.now ≤ 64 }
+        requires order { IsOrder order }
+        requires short { IsShortTime at.now }
         ensures call { CommandCall (record { status = status; order = order; at = at.now })
             self.old self.new result }
         ensures effect { HasCleanDisk (state S.Store self.new.conn) → CommandEffect
@@ -303,8 +303,8 @@ impl<S: Alter> Service<S> {
     /// memory may come at any statement. Nothing is then written. One order and one row are
     /// written in one transaction; the time grows with the logarithm of the tables.
     pub fn place(&mut self, order: u64, at: &Moment) -> Result<Sequenced, OutboxFault>
-        requires order { (1 ≤ order) × (order ≤ max_sequence) }
-        requires short { length at.now ≤ 64 }
+        requires order { IsOrder order }
+        requires short { IsShortTime at.now }
         ensures call { CommandCall (record { status = Placed; order = order; at = at.now })
             self.old self.new result }
         ensures effect { HasCleanDisk (state S.Store self.new.conn) → CommandEffect
@@ -320,8 +320,8 @@ impl<S: Alter> Service<S> {
     /// memory may come at any statement. Nothing is then written. One order and one row are
     /// written in one transaction; the time grows with the logarithm of the tables.
     pub fn ship(&mut self, order: u64, at: &Moment) -> Result<Sequenced, OutboxFault>
-        requires order { (1 ≤ order) × (order ≤ max_sequence) }
-        requires short { length at.now ≤ 64 }
+        requires order { IsOrder order }
+        requires short { IsShortTime at.now }
         ensures call { CommandCall (record { status = Shipped; order = order; at = at.now })
             self.old self.new result }
         ensures effect { HasCleanDisk (state S.Store self.new.conn) → CommandEffect
@@ -337,8 +337,8 @@ impl<S: Alter> Service<S> {
     /// memory may come at any statement. Nothing is then written. One order and one row are
     /// written in one transaction; the time grows with the logarithm of the tables.
     pub fn cancel(&mut self, order: u64, at: &Moment) -> Result<Sequenced, OutboxFault>
-        requires order { (1 ≤ order) × (order ≤ max_sequence) }
-        requires short { length at.now ≤ 64 }
+        requires order { IsOrder order }
+        requires short { IsShortTime at.now }
         ensures call { CommandCall (record { status = Cancelled; order = order; at = at.now })
             self.old self.new result }
         ensures effect { HasCleanDisk (state S.Store self.new.conn) → CommandEffect
@@ -366,7 +366,7 @@ impl<S: Alter> Service<S> {
             → OnOk result (IsSettled (state S.Store self.new.conn)) }
         ensures crash { LeavesAsBefore (state S.Store self.old.conn)
             (state S.Store self.new.conn) }
-        ensures same { IsSame (state S.Store self.old.conn) (state S.Store self.new.conn) }
+        ensures same { IsServiceReading (state S.Store self.old.conn) (state S.Store self.new.conn) }
         ensures fault { IfErr result (λ f. (f ≡ OutOfMemory) ⊎ (f ≡ Store)) }
     {
         let rows = page(&mut self.conn, after.min(MAX_SEQUENCE), limit)?;

@@ -7,11 +7,12 @@ ghost use Rattle.sqlite.specs.State.{HasCleanDisk, Survives, CommitsShowing, Exe
 ghost use Rattle.sqlite.specs.Held.{state};
 ghost use Rattle.outbox.specs.Order.{Accepted};
 ghost use Rattle.outbox.specs.Service.{IsService};
-ghost use Rattle.outbox.specs.Call.{IsSame, LeavesAsBefore};
-ghost use Rattle.outbox.specs.steps.Change.{Adds, MayAdd, TellsStatus, shown_rows};
-ghost use Rattle.outbox.specs.steps.Rest.{HasCommitted};
+ghost use Rattle.outbox.specs.Call.{IsServiceReading, LeavesAsBefore, OpenThroughout};
+ghost use Rattle.outbox.specs.steps.Change.{AddsCommand, MayAdd, TellsStatus, stored_rows};
+ghost use Rattle.outbox.specs.steps.Rest.{CommitsIfDone, HasCommitted};
 ghost use Rattle.outbox.specs.steps.Statement.{note_text, append_text, page_text, status_text};
 ghost use Rattle.outbox.specs.declared.fault.OutboxFault.TheVariants.{OutOfMemory, Store};
+ghost use Rattle.database_layout.specs.States.{WasOpen};
 
 use crate::fault::OutboxFault;
 use crate::status::Status;
@@ -74,13 +75,12 @@ pub(crate) fn write<S: Alter>(
     requires number { number < 2 ^ 63 }
     requires order { order < 2 ^ 63 }
     ensures added { HasCleanDisk (state S.Store conn.new)
-        → OnOk result (Adds number (record { status = status; order = order; at = at.now })
+        → OnOk result (AddsCommand number (record { status = status; order = order; at = at.now })
         (state S.Store conn.old).now (state S.Store conn.new).now) }
     ensures same { HasCleanDisk (state S.Store conn.new) → IsTrue (state S.Store conn.new).is_open
         → OnErr result (((state S.Store conn.new).now ≡ (state S.Store conn.old).now)
         × ((state S.Store conn.new).committed ≡ (state S.Store conn.old).committed)) }
-    ensures was_open { HasCleanDisk (state S.Store conn.new)
-        → IsTrue (state S.Store conn.new).is_open → IsTrue (state S.Store conn.old).is_open }
+    ensures was_open { WasOpen (state S.Store conn.old) (state S.Store conn.new) }
     ensures committed { HasCleanDisk (state S.Store conn.new)
         → OnOk result ((state S.Store conn.new).committed ≡ (state S.Store conn.new).now) }
     ensures stays { HasCleanDisk (state S.Store conn.new) → OnOk result
@@ -141,7 +141,7 @@ pub(crate) fn status_rows<S: Alter>(
     ensures open { HasCleanDisk (state S.Store conn.new)
         → OnOk result (IsTrue (state S.Store conn.new).is_open) }
     ensures crash { LeavesAsBefore (state S.Store conn.old) (state S.Store conn.new) }
-    ensures same { IsSame (state S.Store conn.old) (state S.Store conn.new) }
+    ensures same { IsServiceReading (state S.Store conn.old) (state S.Store conn.new) }
     ensures fault { IfErr result (λ f. (f ≡ OutOfMemory) ⊎ (f ≡ Store)) }
 {
     if !conn.is_autocommit() {
@@ -162,13 +162,11 @@ pub(crate) fn page<S: Alter>(
         (source : List ℕ) (base : ℕ) (commands : List Accepted)
         → IsService (state S.Store conn.old).now source base commands
         → rows.items ≡ take limit
-        (shown_rows (suc base + (after - base)) (drop (after - base) commands))) }
-    ensures open { HasCleanDisk (state S.Store conn.new) → OnOk result
-        (IsTrue (state S.Store conn.old).is_open × IsTrue (state S.Store conn.new).is_open) }
-    ensures settled { HasCleanDisk (state S.Store conn.new)
-        → OnOk result (HasCommitted (state S.Store conn.old) (state S.Store conn.new)) }
+        (stored_rows (suc base + (after - base)) (drop (after - base) commands))) }
+    ensures open { OpenThroughout (state S.Store conn.old) (state S.Store conn.new) result }
+    ensures settled { CommitsIfDone (state S.Store conn.old) (state S.Store conn.new) result }
     ensures crash { LeavesAsBefore (state S.Store conn.old) (state S.Store conn.new) }
-    ensures same { IsSame (state S.Store conn.old) (state S.Store conn.new) }
+    ensures same { IsServiceReading (state S.Store conn.old) (state S.Store conn.new) }
     ensures fault { IfErr result (λ f. (f ≡ OutOfMemory) ⊎ (f ≡ Store)) }
 {
     if !conn.is_autocommit() {

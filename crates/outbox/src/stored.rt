@@ -5,7 +5,7 @@ ghost use Rattle.sqlite_value.specs.declared.value.Value.TheVariants.{Int, Text 
 ghost use Rattle.sqlite_value.specs.Order.{column};
 ghost use Rattle.outbox.specs.Order.{Accepted};
 ghost use Rattle.outbox.specs.Service.{code};
-ghost use Rattle.outbox.specs.steps.Change.{shown_order, shown_row, shown_service};
+ghost use Rattle.outbox.specs.steps.Change.{stored_order, stored_row, shown_service};
 ghost use Rattle.outbox.specs.declared.status.Status.{Status};
 
 use crate::status::Status;
@@ -62,11 +62,11 @@ pub(crate) fn status_in_row(row: &Row, at: usize) -> Option<Status>
 
 /// What a row of `outbox` holds, where it is that of a number and a command.
 pub(crate) fn read_row(row: &Row) -> Option<Stored<'_>>
-    ensures some { IfSome result (λ s. row.now ≡ shown_row s.number
+    ensures some { IfSome result (λ s. row.now ≡ stored_row s.number
         (record { status = s.status; order = s.order; at = s.at.now })) }
     ensures text { IfSome result (λ s. IsUtf8 s.at.now) }
     ensures none { IfNone result ((number : ℕ) (c : Accepted) → IsUtf8 c.at
-        → row.now ≢ shown_row number c) }
+        → row.now ≢ stored_row number c) }
 {
     if row.column_count() != 4 {
         return None;
@@ -85,9 +85,9 @@ pub(crate) fn read_row(row: &Row) -> Option<Stored<'_>>
 
 /// The order and the status of a row of `orders`.
 pub(crate) fn order_in(row: &Row) -> Option<(u64, Status)>
-    ensures some { IfSome result (λ p. row.now ≡ shown_order p.0 p.1) }
+    ensures some { IfSome result (λ p. row.now ≡ stored_order p.0 p.1) }
     ensures none { IfNone result ((order : ℕ) (status : Status)
-        → row.now ≢ shown_order order status) }
+        → row.now ≢ stored_order order status) }
 {
     if row.column_count() != 2 {
         return None;

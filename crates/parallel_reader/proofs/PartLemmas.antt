@@ -7,11 +7,11 @@ use Rattle.std.proofs.lemmas.List.Folds.{list_all-append}
 use Rattle.std.proofs.lemmas.List.Sorted.{IsPermutation-append, IsPermutation-refl}
 use Rattle.attributes.specs.Event.{EventValue}
 use Rattle.attributes.specs.Sequence.{number_of}
-use Rattle.event_json.specs.Parts.{PartsJoin, SpellsSome, WholesRead, part_text}
+use Rattle.event_json.specs.Parts.{PartsSpellBoth, SpellsSome, WholesRead, part_text}
 use Rattle.event_json.specs.Reading.{max_input}
 use Rattle.inbox.specs.Sets.{AreEvents}
-use Rattle.file_reports.specs.Reports.{AreSequenced}
-use Rattle.parallel_reader.specs.Parts.{IsPart, SpellsBatch}
+use Rattle.event_files.specs.Files.{AreSequenced}
+use Rattle.parallel_reader.specs.Parts.{IsBatchPart, SpellsBatch}
 
 pub of_ok : {A E : Type 0} (P : A → Type 0) (r : Result A E) (a : A) → r ≡ Ok a → IfOk r P → P a
 of_ok P r a e h = subst (λ x. IfOk x P) e h
@@ -27,8 +27,8 @@ are_append : (xs ys : List EventValue) → AreEvents xs → AreEvents ys → Are
 are_append [] ys h k = k
 are_append (x ∷ xs) ys h k = (h.0, are_append xs ys h.1 k)
 
-pub joined_part : PartsJoin → (b : List ℕ) (opened closed : Bool) (at : ℕ) (is_sorted : Bool) (l r n : List EventValue) → slice_get b at ≡ Some 44
-    → IsPart (part_text opened (take at b) false) is_sorted l → IsPart (part_text false (slice_range b (at + 1) (length b)) closed) is_sorted r → n ≡ l ++ r → IsPart (part_text opened b closed) is_sorted n
+pub joined_part : PartsSpellBoth → (b : List ℕ) (opened closed : Bool) (at : ℕ) (is_sorted : Bool) (l r n : List EventValue) → slice_get b at ≡ Some 44
+    → IsBatchPart (part_text opened (take at b) false) is_sorted l → IsBatchPart (part_text false (slice_range b (at + 1) (length b)) closed) is_sorted r → n ≡ l ++ r → IsBatchPart (part_text opened b closed) is_sorted n
 joined_part law b opened closed at is_sorted l r n comma one two is =
     record {
       events = one.events ++ two.events;
@@ -39,7 +39,7 @@ joined_part law b opened closed at is_sorted l r n comma one two is =
       in_order = λ s. is ∙ ap₂ (λ (x y : List EventValue). x ++ y) (one.in_order s) (two.in_order s);
     }
 
-pub whole_part : WholesRead → (b : List ℕ) (is_sorted : Bool) (batch : List EventValue) → length b ≤ max_input → IsPart (part_text true b true) is_sorted batch → SpellsBatch b is_sorted batch
+pub whole_part : WholesRead → (b : List ℕ) (is_sorted : Bool) (batch : List EventValue) → length b ≤ max_input → IsBatchPart (part_text true b true) is_sorted batch → SpellsBatch b is_sorted batch
 whole_part law b is_sorted batch fits p =
     record {
       events = p.events;
@@ -50,7 +50,7 @@ whole_part law b is_sorted batch fits p =
 
 -- ---- a part that one thread read
 
-pub sorted_part : (b : List ℕ) (is_sorted : Bool) (l numbered batch : List EventValue) → SpellsSome b l → numbered ≡ l → AreSequenced numbered → AreEvents numbered → IsPermutation numbered batch → is_sorted ≡ true → IsPart b is_sorted batch
+pub sorted_part : (b : List ℕ) (is_sorted : Bool) (l numbered batch : List EventValue) → SpellsSome b l → numbered ≡ l → AreSequenced numbered → AreEvents numbered → IsPermutation numbered batch → is_sorted ≡ true → IsBatchPart b is_sorted batch
 sorted_part b is_sorted l numbered batch spells is have are same t =
     record {
       events = numbered;
@@ -61,7 +61,7 @@ sorted_part b is_sorted l numbered batch spells is have are same t =
       in_order = λ f. absurd (true≢false (sym t ∙ f));
     }
 
-pub ordered_part : (b : List ℕ) (is_sorted : Bool) (l numbered batch : List EventValue) → SpellsSome b l → numbered ≡ l → AreSequenced numbered → AreEvents numbered → batch ≡ numbered → IsPart b is_sorted batch
+pub ordered_part : (b : List ℕ) (is_sorted : Bool) (l numbered batch : List EventValue) → SpellsSome b l → numbered ≡ l → AreSequenced numbered → AreEvents numbered → batch ≡ numbered → IsBatchPart b is_sorted batch
 ordered_part b is_sorted l numbered batch spells is have are same =
     record {
       events = numbered;

@@ -4,11 +4,11 @@ use Rattle.std.specs.List.Sorted.{IsPermutation}
 use Rattle.attributes.specs.Event.{EventValue}
 use Rattle.event_json.specs.Parts.{SpellsSome}
 use Rattle.inbox.specs.Sets.{AreEvents}
-use Rattle.file_reports.specs.Reports.{AreSequenced, SpellsNumbered}
+use Rattle.event_files.specs.Files.{AreSequenced, SpellsNumbered}
 
 -- the batch has just the events that the bytes spell, each with a number, and in their order unless
 -- they are sorted
-pub record IsPart (b : List ℕ) (is_sorted : Bool) (batch : List EventValue) : Type 0 where
+pub record IsBatchPart (b : List ℕ) (is_sorted : Bool) (batch : List EventValue) : Type 0 where
   pub events : List EventValue
   pub spells : SpellsSome b events
   pub numbered : AreSequenced events

@@ -2,11 +2,11 @@
 ghost use Rattle.std.specs.Prelude.{◌≡◌, ◌<◌, false, IfOk, IfSome};
 ghost use Rattle.std.specs.Thread.{IsSync};
 ghost use Rattle.event_json.specs.Parts.{part_text};
-ghost use Rattle.parallel_reader.specs.Parts.{IsPart};
+ghost use Rattle.parallel_reader.specs.Parts.{IsBatchPart};
 
 use attributes::Batch;
+use event_files::{ReportFault, append, batch_of, in_key_order, sequenced};
 use event_json::{batch_parts_join, next_comma, read_part_events};
-use file_reports::{ReportFault, append, batch_of, in_key_order, sequenced};
 use std::alloc::{AllocError, Global};
 use std::thread::{Threads, join};
 
@@ -22,7 +22,7 @@ pub fn read_halves<R: Threads + Sync>(
     is_sorted: bool,
     levels: u32,
 ) -> Result<Option<Batch>, AllocError>
-    ensures { IfOk result (λ o. IfSome o (IsPart (part_text opened bytes.now closed) is_sorted)) }
+    ensures { IfOk result (λ o. IfSome o (IsBatchPart (part_text opened bytes.now closed) is_sorted)) }
 {
     if levels == 0 {
         return read_part(alloc, bytes, opened, closed, is_sorted);
@@ -38,12 +38,12 @@ pub fn read_halves<R: Threads + Sync>(
         || -> Result<Option<Batch>, AllocError>
             requires { IsSync R.row × (0 < levels) }
             ensures { IfOk result (λ o. IfSome o
-                (IsPart (part_text opened left.entry.now false) is_sorted)) }
+                (IsBatchPart (part_text opened left.entry.now false) is_sorted)) }
         { read_halves(rt, alloc, left, opened, false, is_sorted, levels - 1) },
         || -> Result<Option<Batch>, AllocError>
             requires { IsSync R.row × (0 < levels) }
             ensures { IfOk result (λ o. IfSome o
-                (IsPart (part_text false right.entry.now closed) is_sorted)) }
+                (IsBatchPart (part_text false right.entry.now closed) is_sorted)) }
         { read_halves(rt, alloc, right, false, closed, is_sorted, levels - 1) },
     );
     // That two parts are one where a comma joins them is a law; it does nothing.
@@ -66,7 +66,7 @@ fn read_part(
     closed: bool,
     is_sorted: bool,
 ) -> Result<Option<Batch>, AllocError>
-    ensures { IfOk result (λ o. IfSome o (IsPart (part_text opened bytes.now closed) is_sorted)) }
+    ensures { IfOk result (λ o. IfSome o (IsBatchPart (part_text opened bytes.now closed) is_sorted)) }
 {
     let Some(events) = read_part_events(alloc, bytes, opened, closed)? else {
         return Ok(None);

@@ -5,8 +5,8 @@ ghost use Rattle.parallel_reader.specs.Parts.{SpellsBatch};
 
 use crate::part::read_halves;
 use attributes::Batch;
+use event_files::{EventReader, ReportFault, SequentialReader};
 use event_json::{MAX_INPUT, batch_parts_join};
-use file_reports::{EventReader, ReportFault, SequentialReader};
 use std::alloc::{AllocError, Global};
 use std::thread::{Threads, available_parallelism};
 

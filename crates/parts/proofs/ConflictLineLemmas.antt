@@ -14,7 +14,7 @@ use Rattle.serde_json.specs.Written.{compact_text, has_float, items_have_float, 
 use Rattle.serde_json.specs.declared.value.Value.{Value}
 use Rattle.serde_json.proofs.OnLiterals.{serde_json_on_literals}
 use Rattle.attributes.specs.Event.{EventValue, members_of, text}
-use Rattle.attributes.specs.Exact.{IsExact, IsWhole, ItemsAreExact, KeysAscend, MembersAreExact}
+use Rattle.attributes.specs.Exact.{IsExact, IsWholeNumber, ItemsAreExact, KeysAscend, MembersAreExact}
 use Rattle.attributes.proofs.LawLemmas.{depth_event, exact_event}
 use Rattle.attributes.proofs.LineLemmas.{line as seen_line}
 use Rattle.inbox.specs.Conflicts.{conflict_of, conflicts, is_first_of_several}
@@ -99,7 +99,7 @@ events_at c = refl
 or_false : (a b : Bool) → a ≡ false → b ≡ false → (a || b) ≡ false
 or_false a b g h = ap₂ (λ x y. x || y) g h
 
-whole_number : (n : Num) → IsWhole n → is_float n ≡ false
+whole_number : (n : Num) → IsWholeNumber n → is_float n ≡ false
 whole_number (unsigned n) h = refl
 whole_number (negative (pos n)) h = absurd h
 whole_number (negative (negsuc n)) h = refl

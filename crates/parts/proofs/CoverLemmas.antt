@@ -10,7 +10,7 @@ use Rattle.coverage.specs.Summary.{Entries, Entry, Sources, holds_in, numbers_in
 use Rattle.views.specs.Line.{cover_line}
 use Rattle.parts.specs.Lines.{AreJoined}
 use Rattle.parts.proofs.LineLemmas.{joined_more}
-use Rattle.parts.specs.Combined.{AreCovers, HasSource, IsFirst, IsNoCover}
+use Rattle.parts.specs.Combined.{AreCovers, HasSource, IsOfFirstVersion, IsNoCover}
 
 pub some_is : {X : Type 0} (y x : X) → Some y ≡ Some x → y ≡ x
 some_is y x h = cc
@@ -23,10 +23,10 @@ pub all_more : {X : Type 0} (P : X → Type 0) (xs : List X) (x : X) → AllByRe
 all_more P [] x a h = (h, tt)
 all_more P (y ∷ ys) x a h = (a.0, all_more P ys x a.1 h)
 
-pub cover_more : (texts : List (List ℕ)) (summaries : List Sources) (text : List ℕ) (s : Sources) → AreCovers texts summaries → IsFirst s → text ≡ cover_line s
+pub cover_more : (texts : List (List ℕ)) (summaries : List Sources) (text : List ℕ) (s : Sources) → AreCovers texts summaries → IsOfFirstVersion s → text ≡ cover_line s
     → AreCovers (texts ++ text ∷ []) (summaries ++ s ∷ [])
 cover_more texts summaries text s are first is = record {
-  first = all_more IsFirst summaries s are.first first;
+  first = all_more IsOfFirstVersion summaries s are.first first;
   written = map-append cover_line summaries (s ∷ []) ∙ ap₂ (λ l t. l ++ t ∷ []) are.written (sym is);
 }
 
@@ -97,11 +97,11 @@ row_more f xs es i x P is lt at before here =
 -- ---- what is read
 
 pub read_more : (covers : List (Bor (List ℕ))) (i : ℕ) (d : Bor (List ℕ)) (o : Option Sources) (s : Sources) (ss items : List Sources) → i < length covers → o ≡ Some s
-    → IfSome o (λ t. IsFirst t × ((get_or covers i d).now ≡ cover_line t)) → items ≡ ss ++ s ∷ [] → AreCovers (map (λ t. t.now) (take i covers)) ss
+    → IfSome o (λ t. IsOfFirstVersion t × ((get_or covers i d).now ≡ cover_line t)) → items ≡ ss ++ s ∷ [] → AreCovers (map (λ t. t.now) (take i covers)) ss
     → AreCovers (map (λ t. t.now) (take (i + 1) covers)) items
 read_more covers i d o s ss items lt some told pushed are =
     let now : Bor (List ℕ) → List ℕ = λ t. t.now in
-    let h = subst (λ m. IfSome m (λ t. IsFirst t × ((get_or covers i d).now ≡ cover_line t))) some told in
+    let h = subst (λ m. IfSome m (λ t. IsOfFirstVersion t × ((get_or covers i d).now ≡ cover_line t))) some told in
     subst (AreCovers (map now (take (i + 1) covers))) (sym pushed)
     (subst (λ l. AreCovers l (ss ++ s ∷ [])) (sym (map_taken now covers i d lt)) (cover_more (map now (take i covers)) ss (get_or covers i d).now s are h.0 h.1))
 

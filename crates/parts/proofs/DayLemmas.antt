@@ -24,7 +24,7 @@ use Rattle.views.specs.declared.query.Query.TheVariants as query
 use Rattle.views.proofs.OrderLemmas.{day_cmp_total}
 use Rattle.parts.specs.Combined.{AreAnswers}
 use Rattle.parts.specs.Counts.{AreDays, IsCounted, IsSummed, RefusesCounts}
-use Rattle.parts.specs.Lines.{AreLinesOf, IsPlain}
+use Rattle.parts.specs.Lines.{AreLinesOf, IsOneLine}
 use Rattle.parts.specs.declared.fault.CombineFault.{CombineFault}
 use Rattle.parts.specs.declared.fault.CombineFault.TheVariants.{OutOfMemory}
 use Rattle.parts.proofs.CountLemmas.{tally_counts}
@@ -100,7 +100,7 @@ module _ (reads : ReadsBack) where
       let day : r.0.1 ≡ s.0.1 = day_one r.0.1 s.0.1 d e a.1.1 b.1.1 (ap day_in same) in
       ap₂ (λ k n. (k, n)) (ap₂ (λ k m. (k, m)) (ap kind_in same) day) (ap count_in same)
 
-  plain_row : (row : Row) (day : List ℕ) → IsCounted row → IsPlain (compact_text (day_data row.0.0 day row.1))
+  plain_row : (row : Row) (day : List ℕ) → IsCounted row → IsOneLine (compact_text (day_data row.0.0 day row.1))
   plain_row row day own = seen_plain (compact_text (day_data row.0.0 day row.1)) (seen_line (day_data row.0.0 day row.1) (exact_row row day own))
 
   lines_of : (rows : List Row) (t : List ℕ) → AllByRecursion IsCounted rows → AreDayLines rows t → AreLinesOf is_line rows t

@@ -6,7 +6,7 @@ use Rattle.coverage.specs.Summary.{IsSummary, Sources}
 use Rattle.coverage.specs.SummaryText.{summary_text}
 use Rattle.views.specs.Number.{Sums}
 use Rattle.views.specs.declared.query.Query.TheVariants as query
-use Rattle.parts.specs.Combined.{AreAnswers, AreCovers, IsFirst}
+use Rattle.parts.specs.Combined.{AreAnswers, AreCovers, IsOfFirstVersion}
 use Rattle.parts.specs.Gaps.{RefusesGaps, TellsGaps, TellsOther}
 use Rattle.parts.specs.Part.{part}
 use Rattle.parts.specs.declared.fault.CombineFault.{CombineFault}
@@ -33,7 +33,7 @@ module _ (tells : (s t : Sources) → IsSummary s → IsSummary t → summary_te
     (p : List ℕ → ℕ) (E : List EventValue) (texts covers : List (List ℕ)) (answers : AreAnswers query.Gaps p E texts) (are : AreAnswers query.Cover p E covers) where
   of_part : (ss : List Sources) → AreCovers covers ss → (i : ℕ) (s : Sources) → slice_get ss i ≡ Some s → Sums (part p i E) s
   of_part ss read i s got =
-      let first = all_at IsFirst ss i s read.first got in
+      let first = all_at IsOfFirstVersion ss i s read.first got in
       record { version = first.1; in_form = first.0; exact = λ source n. held tells p E covers are ss read i s got source n ∙ sym (numbers p i E source n) }
 
   pub gaps_memory : (f : CombineFault) → RefusesGaps texts covers f → f ≡ OutOfMemory

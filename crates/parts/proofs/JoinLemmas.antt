@@ -20,7 +20,7 @@ use Rattle.inbox.proofs.SetLemmas.{all-in_order, all_append, has-in_order, same_
 use Rattle.views.specs.Latest.{entities_of, entity_cmp, entity_of, is_of, latest, latest_of}
 use Rattle.views.proofs.GreatestLemmas.{latest_is_greatest}
 use Rattle.views.proofs.OrderLemmas.{entity_cmp_total}
-use Rattle.parts.specs.Merge.{conflict_cmp, entity_at, latest_cmp, row_cmp, rows_of}
+use Rattle.parts.specs.Merge.{conflict_cmp, entity_at, latest_cmp, source_row_cmp, rows_of_part}
 use Rattle.parts.specs.Part.{FallsBelow, falls_to, of_parts, part}
 use Rattle.parts.specs.Law.{PartsJoin}
 use Rattle.parts.proofs.PartLemmas.{conflicts_part}
@@ -65,19 +65,19 @@ module _ {X : Type 0} {R : X → X → Ordering} (o : IsTotalOrder R) where
 
 -- ---- rows by source
 
-row_total : {X : Type 0} → IsTotalOrder (row_cmp {X = X})
+row_total : {X : Type 0} → IsTotalOrder (source_row_cmp {X = X})
 row_total {X} = on_total (λ (r : List ℕ × X). r.0) nat_list_cmp_total
 
 below_keys : {X : Type 0} (k : List ℕ) (rows : List (List ℕ × X)) → AllByRecursion (λ z. byte_cmp k z ≡ Less) (keys_of rows) → AllByRecursion (λ (r : List ℕ × X). byte_cmp k r.0 ≡ Less) rows
 below_keys k [] a = tt
 below_keys k (r ∷ rows) a = (a.0, below_keys k rows a.1)
 
-rows_sorted : {X : Type 0} (rows : List (List ℕ × X)) → IsStrictlySortedBy byte_cmp (keys_of rows) → IsStrictlySortedBy (row_cmp {X = X}) rows
+rows_sorted : {X : Type 0} (rows : List (List ℕ × X)) → IsStrictlySortedBy byte_cmp (keys_of rows) → IsStrictlySortedBy (source_row_cmp {X = X}) rows
 unfolding IsStrictlySortedBy
 rows_sorted [] s = tt
 rows_sorted (r ∷ rows) s = (below_keys r.0 rows s.0, rows_sorted rows s.1)
 
-pub rows_join : {X : Type 0} (p : List ℕ → ℕ) (n : ℕ) → FallsBelow p n → (rows : List (List ℕ × X)) → IsStrictlySortedBy byte_cmp (keys_of rows) → in_order row_cmp (of_parts n (λ i. rows_of p i rows)) ≡ rows
+pub rows_join : {X : Type 0} (p : List ℕ → ℕ) (n : ℕ) → FallsBelow p n → (rows : List (List ℕ × X)) → IsStrictlySortedBy byte_cmp (keys_of rows) → in_order source_row_cmp (of_parts n (λ i. rows_of_part p i rows)) ≡ rows
 rows_join {X} p n falls rows s = joined row_total (λ (r : List ℕ × X). r.0) p n falls rows (rows_sorted rows s)
 
 -- ---- conflicts

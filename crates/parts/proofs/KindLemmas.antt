@@ -19,7 +19,7 @@ use Rattle.views.specs.Tally.{kinds}
 use Rattle.views.specs.declared.query.Query.TheVariants as query
 use Rattle.parts.specs.Combined.{AreAnswers}
 use Rattle.parts.specs.Counts.{AreKindLines, AreKinds, IsCounted, IsSummed, RefusesCounts}
-use Rattle.parts.specs.Lines.{AreLinesOf, IsPlain}
+use Rattle.parts.specs.Lines.{AreLinesOf, IsOneLine}
 use Rattle.parts.specs.declared.fault.CombineFault.{CombineFault}
 use Rattle.parts.specs.declared.fault.CombineFault.TheVariants.{OutOfMemory}
 use Rattle.parts.proofs.CountLemmas.{tally_counts}
@@ -79,7 +79,7 @@ module _ (reads : ReadsBack) where
       data_one reads (row_data r) (row_data s) (exact_row r a.0) (shallow_row r) (exact_row s b.0) (shallow_row s) (sym a.1 ∙ b.1) in
       ap₂ (λ k n. (k, n)) (ap kind_in same) (ap count_in same)
 
-  plain_row : (row : Row) → IsCounted row → IsPlain (row_text row)
+  plain_row : (row : Row) → IsCounted row → IsOneLine (row_text row)
   plain_row row own = seen_plain (row_text row) (seen_line (row_data row) (exact_row row own))
 
   pub kinds_lines : (t : List ℕ) (rows : List Row) → AreKinds t rows → AreLinesOf is_line rows t

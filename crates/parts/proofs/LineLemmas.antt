@@ -4,7 +4,7 @@ use Rattle.std.proofs.lemmas.Bool.Decides.{nat_tests}
 use Rattle.std.proofs.lemmas.List.{drop_at, length_push, take_at}
 use Rattle.std.specs.List.{AllByRecursion, after_first, before_first, position_or_len, range_with_len}
 use Rattle.views.specs.Line.{line}
-use Rattle.parts.specs.Lines.{AreJoined, AreLinesOf, IsPlain}
+use Rattle.parts.specs.Lines.{AreJoined, AreLinesOf, IsOneLine}
 
 abbrev pub is_lf : ℕ → Bool
 is_lf b = b == 10
@@ -12,16 +12,16 @@ is_lf b = b == 10
 other : (b : ℕ) → b ≢ 10 → (b == 10) ≡ false
 other b differs = grind (arith, nat_tests)
 
-at_lf : (l more : List ℕ) → IsPlain l → position_or_len is_lf (l ++ 10 ∷ more) ≡ length l
+at_lf : (l more : List ℕ) → IsOneLine l → position_or_len is_lf (l ++ 10 ∷ more) ≡ length l
 at_lf [] more p = refl
 at_lf (x ∷ l) more p =
     let later = at_lf l more p.1 in
     ap (λ t. cond (not t) (1 + position_or_len is_lf (l ++ 10 ∷ more)) 0) (other x p.0) ∙ omega (arith, later)
 
-before_lf : (l more : List ℕ) → IsPlain l → before_first is_lf (l ++ 10 ∷ more) ≡ l
+before_lf : (l more : List ℕ) → IsOneLine l → before_first is_lf (l ++ 10 ∷ more) ≡ l
 before_lf l more p = ap (λ n. take n (l ++ 10 ∷ more)) (at_lf l more p) ∙ take_at l (10 ∷ more) (length l) refl
 
-after_lf : (l more : List ℕ) → IsPlain l → after_first is_lf (l ++ 10 ∷ more) ≡ more
+after_lf : (l more : List ℕ) → IsOneLine l → after_first is_lf (l ++ 10 ∷ more) ≡ more
 after_lf l more p =
     ap (λ n. drop (n + 1) (l ++ 10 ∷ more)) (at_lf l more p)
     ∙ ap (drop (length l + 1)) (sym (append_assoc l (10 ∷ []) more)) ∙ drop_at (l ++ 10 ∷ []) more (length l + 1) (length_push l 10)
@@ -93,13 +93,13 @@ module _ {X : Type 0} (is_line : X → List ℕ → Type 0) where
       (rows_one tells rows others rest (subst (AreLinesOf is_line rows) behind later) after)
 
 -- the lines of rows that each have a text
-pub lines_are : {X : Type 0} (P : X → Type 0) (f : X → List ℕ) → ((x : X) → P x → IsPlain (f x)) → (rows : List X) → AllByRecursion P rows
+pub lines_are : {X : Type 0} (P : X → Type 0) (f : X → List ℕ) → ((x : X) → P x → IsOneLine (f x)) → (rows : List X) → AllByRecursion P rows
     → AreLinesOf (λ row l. P row × (l ≡ f row)) rows (flat_map (λ row. line (f row)) rows)
 lines_are P f plain [] all = refl
 lines_are P f plain (row ∷ rows) all =
     (f row, flat_map (λ r. line (f r)) rows, (all.0, refl), plain row all.0, append_assoc (f row) (10 ∷ []) (flat_map (λ r. line (f r)) rows), lines_are P f plain rows all.1)
 
-pub seen_plain : (bytes : List ℕ) → AllByRecursion (λ b. 32 ≤ b) bytes → IsPlain bytes
+pub seen_plain : (bytes : List ℕ) → AllByRecursion (λ b. 32 ≤ b) bytes → IsOneLine bytes
 seen_plain [] h = tt
 seen_plain (b ∷ bytes) h = ((λ e. omega (arith, h.0, e)), seen_plain bytes h.1)
 

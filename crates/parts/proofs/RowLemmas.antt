@@ -12,8 +12,8 @@ use Rattle.coverage.specs.Intervals.{Interval, holds}
 use Rattle.coverage.specs.Numbers.{byte_cmp}
 use Rattle.coverage.specs.Summary.{AreListed, Entries, IsEntry, Sources, holds_in, numbers_in}
 use Rattle.views.specs.Number.{AreGaps, IsGap, Sums, has_number, is_number, is_numbered}
-use Rattle.parts.specs.Law.{NumbersPart}
-use Rattle.parts.specs.Merge.{rows_of}
+use Rattle.parts.specs.Law.{NumbersOfPart}
+use Rattle.parts.specs.Merge.{rows_of_part}
 use Rattle.parts.specs.Part.{falls_to, part}
 use Rattle.parts.proofs.PartLemmas.{and_left, any_narrow, any_none, any_split}
 
@@ -66,7 +66,7 @@ module _ (p : List ℕ → ℕ) (i : ℕ) where
       (g.0, numbers E s n ∙ ap (λ a. a && falls_to p i s) g.1, (g.2.0, (g.2.1.0, numbers E s g.2.0 ∙ ap₂ (λ (a b : Bool). a && b) g.2.1.1 t)))
 
   -- rows
-  pub rows_in : (es : Entries) (s : List ℕ) → numbers_in (rows_of p i es) s ≡ (if falls_to p i s then numbers_in es s else [])
+  pub rows_in : (es : Entries) (s : List ℕ) → numbers_in (rows_of_part p i es) s ≡ (if falls_to p i s then numbers_in es s else [])
   rows_in [] s = by (falls_to p i s)
     where
       nothing : List Interval
@@ -77,18 +77,18 @@ module _ (p : List ℕ → ℕ) (i : ℕ) where
       by false = refl
   rows_in (e ∷ es) s = by (falls_to p i e.0) (bytes_eq s e.0) refl refl (rows_in es s)
     where
-      by : (c d : Bool) → falls_to p i e.0 ≡ c → bytes_eq s e.0 ≡ d → numbers_in (rows_of p i es) s ≡ (if falls_to p i s then numbers_in es s else [])
-          → numbers_in (cond c (e ∷ rows_of p i es) (rows_of p i es)) s ≡ (if falls_to p i s then (if d then e.1 else numbers_in es s) else [])
+      by : (c d : Bool) → falls_to p i e.0 ≡ c → bytes_eq s e.0 ≡ d → numbers_in (rows_of_part p i es) s ≡ (if falls_to p i s then numbers_in es s else [])
+          → numbers_in (cond c (e ∷ rows_of_part p i es) (rows_of_part p i es)) s ≡ (if falls_to p i s then (if d then e.1 else numbers_in es s) else [])
       by true true h k r =
           let f : falls_to p i s ≡ true = ap (falls_to p i) ((bytes_eq-Decides s e.0).0 k) ∙ h in
-          ap (λ b. if b then e.1 else numbers_in (rows_of p i es) s) k ∙ sym (ap (λ b. if b then e.1 else []) f)
-      by true false h k r = ap (λ b. if b then e.1 else numbers_in (rows_of p i es) s) k ∙ r
+          ap (λ b. if b then e.1 else numbers_in (rows_of_part p i es) s) k ∙ sym (ap (λ b. if b then e.1 else []) f)
+      by true false h k r = ap (λ b. if b then e.1 else numbers_in (rows_of_part p i es) s) k ∙ r
       by false true h k r =
           let f : falls_to p i s ≡ false = ap (falls_to p i) ((bytes_eq-Decides s e.0).0 k) ∙ h in
           r ∙ ap (λ b. if b then numbers_in es s else []) f ∙ sym (ap (λ b. if b then e.1 else []) f)
       by false false h k r = r
 
-  pub holds_rows : (es : Entries) (s : List ℕ) (n : ℕ) → holds_in (rows_of p i es) s n ≡ (holds_in es s n && falls_to p i s)
+  pub holds_rows : (es : Entries) (s : List ℕ) (n : ℕ) → holds_in (rows_of_part p i es) s n ≡ (holds_in es s n && falls_to p i s)
   unfolding holds
   holds_rows es s n = ap (λ l. holds l n) (rows_in es s) ∙ by (falls_to p i s)
     where
@@ -121,10 +121,10 @@ module _ (p : List ℕ → ℕ) (i : ℕ) where
         | false ↦ sorted_rows q xs s.1
       ]
 
-  pub listed : (es : Entries) → AreListed es → AreListed (rows_of p i es)
+  pub listed : (es : Entries) → AreListed es → AreListed (rows_of_part p i es)
   listed es h = (all_rows IsEntry (λ r. falls_to p i r.0) es h.0, sorted_rows (λ r. falls_to p i r.0) es h.1)
 
-  pub gap_rows : (E : List EventValue) (rows : Entries) → AreGaps E rows → AreGaps (part p i E) (rows_of p i rows)
+  pub gap_rows : (E : List EventValue) (rows : Entries) → AreGaps E rows → AreGaps (part p i E) (rows_of_part p i rows)
   gap_rows E rows g = record {
     in_form = listed rows g.in_form;
     exact = λ s n. (
@@ -137,14 +137,14 @@ module _ (p : List ℕ → ℕ) (i : ℕ) where
   undigested es None h = tt
   undigested es (Some d) h = absurd (omega (arith, h))
 
-  pub summed : (E : List EventValue) (s : Sources) → Sums E s → Sums (part p i E) (record s { entries = rows_of p i s.entries })
+  pub summed : (E : List EventValue) (s : Sources) → Sums E s → Sums (part p i E) (record s { entries = rows_of_part p i s.entries })
   summed E s h = record {
     version = h.version;
-    in_form = record { listed = listed s.entries h.in_form.listed; digests = undigested (rows_of p i s.entries) s.digests h.version };
+    in_form = record { listed = listed s.entries h.in_form.listed; digests = undigested (rows_of_part p i s.entries) s.digests h.version };
     exact = λ source n. holds_rows s.entries source n ∙ ap (λ b. b && falls_to p i source) (h.exact source n) ∙ sym (numbers E source n);
   }
 
-pub numbers_part : NumbersPart
+pub numbers_part : NumbersOfPart
 numbers_part = record {
   numbers = numbers;
   gaps = λ p i E s n. (gap_to p i E s n, gap_from p i E s n);

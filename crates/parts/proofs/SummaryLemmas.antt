@@ -6,7 +6,7 @@ use Rattle.std.proofs.lemmas.List.{length-map, map-append}
 use Rattle.std.proofs.lemmas.Option.{slice_get-get_or, slice_get-map, slice_get_read}
 use Rattle.attributes.specs.Event.{EventValue}
 use Rattle.coverage.specs.BlockDigests.{HasDigests, HasNumberIn, SourceBlocks, block_digest, blocks_of}
-use Rattle.coverage.specs.Digests.{Digests, digest_at}
+use Rattle.coverage.specs.Digests.{Digests, block_digest_at}
 use Rattle.coverage.specs.Intervals.{Interval, IsCanonical, holds}
 use Rattle.coverage.specs.Join.{chosen}
 use Rattle.coverage.specs.Summary.{AreEntries, Entries, IsSummary, Sources, holds_at, numbers_in, numbers_of}
@@ -59,7 +59,7 @@ no_option None h = refl
 no_option (Some x) h = absurd (h refl)
 
 -- a source without numbers has no digests
-no_digest : (s : Sources) → IsSummary s → (source : List ℕ) (k : ℕ) → numbers_of s source ≡ [] → digest_at s source k ≡ None
+no_digest : (s : Sources) → IsSummary s → (source : List ℕ) (k : ℕ) → numbers_of s source ≡ [] → block_digest_at s source k ≡ None
 no_digest s is source k none = by s.digests is.digests
   where
     no_number : HasNumberIn s.entries source k → ⊥
@@ -71,7 +71,7 @@ no_digest s is source k none = by s.digests is.digests
 
 module _ (summaries : List Sources) (n : ℕ) (next all new : Sources) (lt : n < length summaries) (at : next ≡ get_or summaries n next) (is_next : IsSummary next) (is_all : IsSummary all)
     (numbers_are : (source : List ℕ) → numbers_of new source ≡ chosen (numbers_of all source) (numbers_of all source) (numbers_of next source))
-    (digests_are : (source : List ℕ) (k : ℕ) → digest_at new source k ≡ chosen (numbers_of all source) (digest_at all source k) (digest_at next source k))
+    (digests_are : (source : List ℕ) (k : ℕ) → block_digest_at new source k ≡ chosen (numbers_of all source) (block_digest_at all source k) (block_digest_at next source k))
     (joined : IsJoined summaries n all) where
   stands : slice_get summaries n ≡ Some next
   stands = slice_get_read summaries (length summaries) n next refl lt at
@@ -80,14 +80,14 @@ module _ (summaries : List Sources) (n : ℕ) (next all new : Sources) (lt : n <
   kept : (source : List ℕ) → numbers_of next source ≡ [] → TellAlike new all source
   kept source none = (
     numbers_are source ∙ chosen_own (numbers_of all source) (numbers_of all source) (numbers_of next source) (λ e. none ∙ sym e),
-    λ k. digests_are source k ∙ chosen_own (numbers_of all source) (digest_at all source k) (digest_at next source k) (λ e. no_digest next is_next source k none ∙ sym (no_digest all is_all source k e)),
+    λ k. digests_are source k ∙ chosen_own (numbers_of all source) (block_digest_at all source k) (block_digest_at next source k) (λ e. no_digest next is_next source k none ∙ sym (no_digest all is_all source k e)),
   )
 
   -- what comes
   taken_over : (source : List ℕ) → numbers_of all source ≡ [] → TellAlike new next source
   taken_over source none = (
     numbers_are source ∙ chosen_other (numbers_of all source) (numbers_of all source) (numbers_of next source) none,
-    λ k. digests_are source k ∙ chosen_other (numbers_of all source) (digest_at all source k) (digest_at next source k) none,
+    λ k. digests_are source k ∙ chosen_other (numbers_of all source) (block_digest_at all source k) (block_digest_at next source k) none,
   )
 
   before : (i : ℕ) → i < n → (t : Sources) (source : List ℕ) → slice_get summaries i ≡ Some t → IsAlone summaries (n + 1) i source → TellAlike new t source

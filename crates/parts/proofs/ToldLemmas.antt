@@ -26,9 +26,9 @@ use Rattle.views.specs.declared.query.Query.TheVariants as query
 use Rattle.views.proofs.GreatestLemmas.{each_there}
 use Rattle.parts.specs.Combined.{AreAnswers, HasAt, RefusesRead}
 use Rattle.parts.specs.Conflict.{IsSequenced}
-use Rattle.parts.specs.Lines.{AreJoined, AreLinesOf, IsPlain}
+use Rattle.parts.specs.Lines.{AreJoined, AreLinesOf, IsOneLine}
 use Rattle.parts.specs.Part.{FallsBelow, falls_to, of_parts, part}
-use Rattle.parts.specs.Told.{AreGathered, AreToldBy, IsHeld, IsNoAnswer, IsOfEvents, IsToldTogether, RefusesTold, TellsEvents, TellsSet, told}
+use Rattle.parts.specs.Told.{AreGathered, AreToldBy, IsHeld, IsNoAnswer, IsOfEvents, IsToldTogether, RefusesTold, TellsEvents, TellsSet, events_told}
 use Rattle.parts.specs.declared.fault.CombineFault.{CombineFault}
 use Rattle.parts.specs.declared.fault.CombineFault.TheVariants.{OutOfMemory, NotACover, NotAnAnswer, CoverCount, TooMany, Overlap}
 use Rattle.parts.proofs.AgainLemmas.{at_place, in_shown, kept_in, latest_again, latest_events, shown_again}
@@ -89,7 +89,7 @@ held_part p i E held = record {
   sorted = sorted_left key_cmp (λ e. falls_to p i (source_of e)) E held.sorted;
 }
 
-pub told_part : (p : List ℕ → ℕ) (i : ℕ) (q : Query) → IsOfEvents q → (E : List EventValue) → told q (part p i E) ≡ part p i (told q E)
+pub told_part : (p : List ℕ → ℕ) (i : ℕ) (q : Query) → IsOfEvents q → (E : List EventValue) → events_told q (part p i E) ≡ part p i (events_told q E)
 told_part p i query.Cover is E = absurd is
 told_part p i query.Shown is E = shown_part p i E
 told_part p i query.Conflicts is E = conflicts_own (λ e. falls_to p i (source_of e)) (own_alike p i E) E
@@ -139,7 +139,7 @@ module _ (tells : (e f : EventValue) → IsEvent e → IsEvent f → text e ≡ 
   pub set_again : (X : List EventValue) → AreEvents X → IsStrictlySortedBy key_cmp X → set_of X ≡ X
   set_again X a s = same_sets key_cmp_total IsEvent (tied_events tells) (set_of X) X (sorted-in_order key_cmp_total X) s (all-in_order key_cmp_total IsEvent X a) a (has-in_order key_cmp_total X)
 
-  pub told_events : (q : Query) → IsOfEvents q → (E : List EventValue) → AreEvents E → AreEvents (told q E)
+  pub told_events : (q : Query) → IsOfEvents q → (E : List EventValue) → AreEvents E → AreEvents (events_told q E)
   told_events query.Cover is E a = absurd is
   told_events query.Shown is E a = all_left IsEvent (is_shown E) E a
   told_events query.Conflicts is E a = conflict_events E a
@@ -148,8 +148,8 @@ module _ (tells : (e f : EventValue) → IsEvent e → IsEvent f → text e ≡ 
   told_events query.Days is E a = absurd is
   told_events query.Gaps is E a = absurd is
 
-  -- what is told of a set, asked again
-  pub again : (q : Query) → IsOfEvents q → (E : List EventValue) → IsHeld E → (t : List ℕ) → IsAnswer q (set_of (told q E)) t → IsAnswer q E t
+  -- what is events_told of a set, asked again
+  pub again : (q : Query) → IsOfEvents q → (E : List EventValue) → IsHeld E → (t : List ℕ) → IsAnswer q (set_of (events_told q E)) t → IsAnswer q E t
   again query.Cover is E held t h = absurd is
   again query.Shown is E held t h =
       let X = shown E in
@@ -168,14 +168,14 @@ module _ (tells : (e f : EventValue) → IsEvent e → IsEvent f → text e ≡ 
   abbrev is_line : EventValue → List ℕ → Type 0
   is_line e l = IsSequenced e × (l ≡ text e)
 
-  plain_text : (e : EventValue) → IsSequenced e → IsPlain (text e)
+  plain_text : (e : EventValue) → IsSequenced e → IsOneLine (text e)
   plain_text e own = seen_plain (text e) (by_recursion (λ b. 32 ≤ b) (text e) (text_line e own.0))
 
   pub all_sequenced : (E : List EventValue) → IsHeld E → AllByRecursion IsSequenced E
   all_sequenced E held = both IsEvent (λ e. (n : ℕ) × (number_of e ≡ Some n)) E held.events held.numbered
 
   -- the lines of an answer are those of the events that it tells, but for conflicts
-  pub lines_told : (q : Query) → IsOfEvents q → (q ≡ query.Conflicts → ⊥) → (E : List EventValue) → IsHeld E → (t : List ℕ) → IsAnswer q E t → AreLinesOf is_line (told q E) t
+  pub lines_told : (q : Query) → IsOfEvents q → (q ≡ query.Conflicts → ⊥) → (E : List EventValue) → IsHeld E → (t : List ℕ) → IsAnswer q E t → AreLinesOf is_line (events_told q E) t
   lines_told query.Cover is other E held t h = absurd is
   lines_told query.Shown is other E held t h =
       subst (AreLinesOf is_line (shown E)) (sym h) (lines_are IsSequenced text plain_text (shown E) (all_left IsSequenced (is_shown E) E (all_sequenced E held)))
@@ -190,7 +190,7 @@ module _ (tells : (e f : EventValue) → IsEvent e → IsEvent f → text e ≡ 
 
   module _ (q : Query) (is : IsOfEvents q) (p : List ℕ → ℕ) (E : List EventValue) (held : IsHeld E) (texts : List (List ℕ)) (answers : AreAnswers q p E texts) where
     abbrev X : List EventValue
-    X = told q E
+    X = events_told q E
 
     of_part : (i : ℕ) (t : List ℕ) (rows : List EventValue) → slice_get texts i ≡ Some t → TellsEvents q t rows → rows ≡ part p i (set_of X)
     of_part i t rows got own =

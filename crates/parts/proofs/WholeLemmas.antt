@@ -11,7 +11,7 @@ use Rattle.views.specs.Line.{cover_line, line}
 use Rattle.views.specs.Number.{Sums, has_number}
 use Rattle.views.specs.Question.{IsAnswer}
 use Rattle.views.specs.declared.query.Query.TheVariants as query
-use Rattle.parts.specs.Combined.{AreAnswers, AreCovers, HasAt, IsFirst, IsUnited, Refuses, RefusesRead}
+use Rattle.parts.specs.Combined.{AreAnswers, AreCovers, HasAt, IsOfFirstVersion, HoldsUnion, RefusesCovers, RefusesRead}
 use Rattle.parts.specs.Part.{falls_to, part}
 use Rattle.parts.specs.declared.fault.CombineFault.{CombineFault}
 use Rattle.parts.specs.declared.fault.CombineFault.TheVariants.{OutOfMemory, NotACover, NotAnAnswer, CoverCount, TooMany, Overlap}
@@ -55,7 +55,7 @@ pub and_right : (a b : Bool) → (a && b) ≡ true → b ≡ true
 and_right true b h = h
 and_right false b h = absurd (true≢false (sym h))
 
-pub refuses : (texts : List (List ℕ)) (ss : List Sources) → AreCovers texts ss → (e : CombineFault) → RefusesRead ss e → Refuses texts e
+pub refuses : (texts : List (List ℕ)) (ss : List Sources) → AreCovers texts ss → (e : CombineFault) → RefusesRead ss e → RefusesCovers texts e
 refuses texts ss are OutOfMemory r = tt
 refuses texts ss are (NotACover i) r = absurd r
 refuses texts ss are (NotAnAnswer i) r = absurd r
@@ -66,12 +66,12 @@ refuses texts ss are (Overlap name i j) r = (ss, are, r.0, r.1, r.2)
 module _ (tells : (s t : Sources) → IsSummary s → IsSummary t → summary_text s ≡ summary_text t → s ≡ t)
     (p : List ℕ → ℕ) (E : List EventValue) (texts : List (List ℕ)) (answers : AreAnswers query.Cover p E texts) where
   answered : (i : ℕ) (text : List ℕ) → IsAnswer query.Cover (part p i E) text
-      → (t : Sources) × IsFirst t × (text ≡ cover_line t) × ((source : List ℕ) (n : ℕ) → holds_at t source n ≡ (has_number E source n && falls_to p i source))
+      → (t : Sources) × IsOfFirstVersion t × (text ≡ cover_line t) × ((source : List ℕ) (n : ℕ) → holds_at t source n ≡ (has_number E source n && falls_to p i source))
   answered i text a =
       let t : Sources = record { entries = a.1.summary; digests = None } in
       (t, (record { listed = a.1.is_summary; digests = tt }, refl), a.2 ∙ ap line a.1.written, λ source n. a.1.exact source n ∙ numbers p i E source n)
 
-  exact : (s t : Sources) → IsFirst s → IsFirst t → cover_line s ≡ cover_line t → s ≡ t
+  exact : (s t : Sources) → IsOfFirstVersion s → IsOfFirstVersion t → cover_line s ≡ cover_line t → s ≡ t
   exact s t a b h = tells s t a.0 b.0 (same_front 10 (summary_text s) (summary_text t) h)
 
   pub held : (ss : List Sources) → AreCovers texts ss → (i : ℕ) (s : Sources) → slice_get ss i ≡ Some s → (source : List ℕ) (n : ℕ)
@@ -79,9 +79,9 @@ module _ (tells : (s t : Sources) → IsSummary s → IsSummary t → summary_te
   held ss are i s got source n =
       let there : slice_get texts i ≡ Some (cover_line s) = sym (ap (λ l. slice_get l i) are.written) ∙ slice_get-map cover_line ss i ∙ ap (option_map cover_line) got in
       let a = answered i (cover_line s) (answers.each i (cover_line s) there) in
-      ap (λ t. holds_at t source n) (exact s a.0 (all_at IsFirst ss i s are.first got) a.1 a.2) ∙ a.3 source n
+      ap (λ t. holds_at t source n) (exact s a.0 (all_at IsOfFirstVersion ss i s are.first got) a.1 a.2) ∙ a.3 source n
 
-  whole : (ss : List Sources) → AreCovers texts ss → (all : Sources) → IsUnited ss all → (source : List ℕ) (n : ℕ) → holds_at all source n ≡ has_number E source n
+  whole : (ss : List Sources) → AreCovers texts ss → (all : Sources) → HoldsUnion ss all → (source : List ℕ) (n : ℕ) → holds_at all source n ≡ has_number E source n
   whole ss are all united source n = united source n ∙ bool_same (list_any (λ t. holds_at t source n) ss) (has_number E source n) there back
     where
       there : list_any (λ t. holds_at t source n) ss ≡ true → has_number E source n ≡ true
@@ -102,10 +102,10 @@ module _ (tells : (s t : Sources) → IsSummary s → IsSummary t → summary_te
           any_at (λ t. holds_at t source n) ss i (get_or ss i nothing) got
           (held ss are i (get_or ss i nothing) got source n ∙ ap₂ (λ a b. a && b) h (eq-eqb (p source) i refl))
 
-  pub sums : (ss : List Sources) → AreCovers texts ss → (all : Sources) → IsFirst all → IsUnited ss all → Sums E all
+  pub sums : (ss : List Sources) → AreCovers texts ss → (all : Sources) → IsOfFirstVersion all → HoldsUnion ss all → Sums E all
   sums ss are all first united = record { version = first.1; in_form = first.0; exact = whole ss are all united }
 
-  pub memory_alone : (e : CombineFault) → Refuses texts e → e ≡ OutOfMemory
+  pub memory_alone : (e : CombineFault) → RefusesCovers texts e → e ≡ OutOfMemory
   memory_alone OutOfMemory r = refl
   memory_alone (NotACover i) r = absurd (let a = answered i r.0 (answers.each i r.0 r.1) in r.2 a.0 a.1 a.2)
   memory_alone (NotAnAnswer i) r = absurd r
@@ -121,6 +121,6 @@ module _ (tells : (s t : Sources) → IsSummary s → IsSummary t → summary_te
           let source = string_bytes name in
           eqb-true (p source) k (and_right (has_number E source has.2.0) (falls_to p k source) (sym (held ss are k has.0 has.1 source has.2.0) ∙ has.2.1))
 
-  pub taken : (r : Result (List ℕ) CombineFault) → IfErr r (Refuses texts) → OnErr r (r ≡ Err OutOfMemory)
+  pub taken : (r : Result (List ℕ) CombineFault) → IfErr r (RefusesCovers texts) → OnErr r (r ≡ Err OutOfMemory)
   taken (Ok text) h = tt
   taken (Err e) h = ap Err (memory_alone e h)

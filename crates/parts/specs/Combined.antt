@@ -26,12 +26,12 @@ abbrev pub IsNoLineOf : ℕ → List ℕ → Type 0
 IsNoLineOf version text = (s : Sources) → IsOfVersion version s → text ≢ cover_line s
 
 -- a summary of version 1
-abbrev pub IsFirst : Sources → Type 0
-IsFirst s = IsOfVersion 1 s
+abbrev pub IsOfFirstVersion : Sources → Type 0
+IsOfFirstVersion s = IsOfVersion 1 s
 
 -- the texts are the answers to `cover` that say what the summaries do
 pub record AreCovers (texts : List (List ℕ)) (summaries : List Sources) : Type 0 where
-  pub first : AllByRecursion IsFirst summaries
+  pub first : AllByRecursion IsOfFirstVersion summaries
   pub written : map cover_line summaries ≡ texts
 
 -- the summary has a number of the source
@@ -61,13 +61,13 @@ abbrev pub IsNoCover : List ℕ → Type 0
 IsNoCover text = IsNoLineOf 1 text
 
 -- what is true of the covers of parts that are refused with the fault
-abbrev pub Refuses : List (List ℕ) → CombineFault → Type 0
-Refuses texts OutOfMemory = Unit {0}
-Refuses texts (NotACover i) = (text : List ℕ) × (slice_get texts i ≡ Some text) × IsNoCover text
-Refuses texts (Overlap name i j) =
+abbrev pub RefusesCovers : List (List ℕ) → CombineFault → Type 0
+RefusesCovers texts OutOfMemory = Unit {0}
+RefusesCovers texts (NotACover i) = (text : List ℕ) × (slice_get texts i ≡ Some text) × IsNoCover text
+RefusesCovers texts (Overlap name i j) =
     (summaries : List Sources) × AreCovers texts summaries × (i < j)
     × HasAt summaries i (string_bytes name) × HasAt summaries j (string_bytes name)
-Refuses texts _ = ⊥
+RefusesCovers texts _ = ⊥
 
 -- what is true of summaries that are refused with the fault
 abbrev pub RefusesRead : List Sources → CombineFault → Type 0
@@ -77,7 +77,7 @@ RefusesRead summaries (Overlap name i j) =
 RefusesRead summaries _ = ⊥
 
 -- the summary holds what one of the summaries does
-abbrev pub IsUnited : List Sources → Sources → Type 0
-IsUnited summaries s =
+abbrev pub HoldsUnion : List Sources → Sources → Type 0
+HoldsUnion summaries s =
     (source : List ℕ) (n : ℕ) → holds_at s source n
     ≡ list_any (λ t. holds_at t source n) summaries

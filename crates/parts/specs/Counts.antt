@@ -11,7 +11,7 @@ use Rattle.views.specs.Line.{AreDayLines, kind_lines}
 use Rattle.views.specs.Tally.{day_cmp}
 use Rattle.views.specs.declared.query.Query.{Query}
 use Rattle.views.specs.declared.query.Query.TheVariants as query
-use Rattle.parts.specs.Combined.{AreAnswers, AreApartCovers, Refuses}
+use Rattle.parts.specs.Combined.{AreAnswers, AreApartCovers, RefusesCovers}
 use Rattle.parts.specs.Lines.{AreJoined}
 use Rattle.parts.specs.Merge.{added}
 use Rattle.parts.specs.declared.fault.CombineFault.{CombineFault}
@@ -34,16 +34,16 @@ abbrev pub AreDays : List ℕ → List ((List ℕ × ℤ) × ℕ) → Type 0
 AreDays text rows = AreCounts day_cmp rows × AreDayLines rows text
 
 -- the text tells no rows
-abbrev pub TellsNone : {X : Type 0} → (List ℕ → List X → Type 0) → List ℕ → Type 0
-TellsNone {X} Tells text = (rows : List X) → Tells text rows → ⊥
+abbrev pub TellsNoRows : {X : Type 0} → (List ℕ → List X → Type 0) → List ℕ → Type 0
+TellsNoRows {X} Tells text = (rows : List X) → Tells text rows → ⊥
 
 -- what is true of texts of which one is refused with the fault
-abbrev pub RefusesTexts : {X : Type 0} → (List ℕ → List X → Type 0) → List (List ℕ) → CombineFault
+abbrev pub RefusesAnswers : {X : Type 0} → (List ℕ → List X → Type 0) → List (List ℕ) → CombineFault
     → Type 0
-RefusesTexts Tells texts OutOfMemory = Unit {0}
-RefusesTexts Tells texts (NotAnAnswer i) =
-    (text : List ℕ) × (slice_get texts i ≡ Some text) × TellsNone Tells text
-RefusesTexts Tells texts _ = ⊥
+RefusesAnswers Tells texts OutOfMemory = Unit {0}
+RefusesAnswers Tells texts (NotAnAnswer i) =
+    (text : List ℕ) × (slice_get texts i ≡ Some text) × TellsNoRows Tells text
+RefusesAnswers Tells texts _ = ⊥
 
 -- the counts of a key come to more than 2^64 - 1
 abbrev pub AreTooMany : {K : Type 0} → (K → K → Ordering) → List (K × ℕ) → Type 0
@@ -60,7 +60,7 @@ abbrev pub RefusesCounts : {K : Type 0} → (List ℕ → List (K × ℕ) → Ty
     → List (List ℕ) → CombineFault → Type 0
 RefusesCounts {K} Tells R texts TooMany =
     (rows : List (K × ℕ)) × AreJoined Tells texts rows × AreTooMany R rows
-RefusesCounts Tells R texts f = RefusesTexts Tells texts f
+RefusesCounts Tells R texts f = RefusesAnswers Tells texts f
 
 -- the text has the lines of the sums of the counts that the texts tell
 abbrev pub IsSummed : {K : Type 0} → (List ℕ → List (K × ℕ) → Type 0) → (K → K → Ordering)
@@ -82,7 +82,7 @@ AreBeside answers covers = (length covers ≡ length answers) × AreApartCovers 
 abbrev pub RefusesBeside : List (List ℕ) → List (List ℕ) → CombineFault → Type 0
 RefusesBeside answers covers (CoverCount m n) =
     (m ≡ length answers) × (n ≡ length covers) × (n ≢ m)
-RefusesBeside answers covers f = Refuses covers f
+RefusesBeside answers covers f = RefusesCovers covers f
 
 -- the texts answer the question over the parts of E, whose events fit a count, and beside each
 -- stands the part's answer to `cover`

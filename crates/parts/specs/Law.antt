@@ -15,20 +15,20 @@ use Rattle.coverage.specs.BlockDigests.{SourceBlocks}
 use Rattle.coverage.specs.Summary.{Entries, Sources}
 use Rattle.views.specs.Latest.{latest}
 use Rattle.views.specs.Number.{AreGaps, IsGap, Sums, has_number}
-use Rattle.parts.specs.Merge.{added, conflict_cmp, latest_cmp, of_part, row_cmp, rows_of}
+use Rattle.parts.specs.Merge.{added, conflict_cmp, latest_cmp, of_part, source_row_cmp, rows_of_part}
 use Rattle.parts.specs.Part.{FallsBelow, falls_to, of_parts, part, part_of}
 
 -- the numbers, and the gaps, of a part are those of its sources
-pub record NumbersPart : Type 0 where
+pub record NumbersOfPart : Type 0 where
   pub numbers : (p : List ℕ → ℕ) (i : ℕ) (E : List EventValue) (source : List ℕ) (n : ℕ)
       → has_number (part p i E) source n ≡ (has_number E source n && falls_to p i source)
   pub gaps : (p : List ℕ → ℕ) (i : ℕ) (E : List EventValue) (source : List ℕ) (n : ℕ)
       → IsGap (part p i E) source n ↔ (IsGap E source n × (p source ≡ i))
   -- a summary of the whole, and its rows of gaps, give those of the parts by source
   pub sums : (p : List ℕ → ℕ) (i : ℕ) (E : List EventValue) (s : Sources) → Sums E s
-      → Sums (part p i E) (record s { entries = rows_of p i s.entries })
+      → Sums (part p i E) (record s { entries = rows_of_part p i s.entries })
   pub rows : (p : List ℕ → ℕ) (i : ℕ) (E : List EventValue) (rows : Entries) → AreGaps E rows
-      → AreGaps (part p i E) (rows_of p i rows)
+      → AreGaps (part p i E) (rows_of_part p i rows)
 
 -- the shown events of a part
 abbrev pub ShownPart : Type 0
@@ -67,10 +67,10 @@ pub record PartsJoin : Type 0 where
       → in_order latest_cmp (of_parts n (λ i. latest (part p i E))) ≡ latest E
   pub entries : (p : List ℕ → ℕ) (n : ℕ) (rows : Entries) → FallsBelow p n
       → IsStrictlySortedBy byte_cmp (keys_of rows)
-      → in_order row_cmp (of_parts n (λ i. rows_of p i rows)) ≡ rows
+      → in_order source_row_cmp (of_parts n (λ i. rows_of_part p i rows)) ≡ rows
   pub digests : (p : List ℕ → ℕ) (n : ℕ) (rows : SourceBlocks) → FallsBelow p n
       → IsStrictlySortedBy byte_cmp (keys_of rows)
-      → in_order row_cmp (of_parts n (λ i. rows_of p i rows)) ≡ rows
+      → in_order source_row_cmp (of_parts n (λ i. rows_of_part p i rows)) ≡ rows
 
 -- a summary with digests gives those of the parts, and so does a delta for a peer, whether the part
 -- is asked with the peer's whole summary or with what it tells of the part's sources
@@ -87,13 +87,13 @@ pub record DeltasPart : Type 0 where
 pub record SummariesJoin : Type 0 where
   pub gaps : (p : List ℕ → ℕ) (n : ℕ) (E : List EventValue) (rows : ℕ → Entries) (all : Entries)
       → FallsBelow p n → ((i : ℕ) → i < n → AreGaps (part p i E) (rows i)) → AreGaps E all
-      → in_order row_cmp (of_parts n rows) ≡ all
+      → in_order source_row_cmp (of_parts n rows) ≡ all
   pub sums : (p : List ℕ → ℕ) (n : ℕ) (E : List EventValue) (parts : ℕ → Sources) (all : Sources)
       → FallsBelow p n → ((i : ℕ) → i < n → Sums (part p i E) (parts i)) → Sums E all
-      → in_order row_cmp (of_parts n (λ i. (parts i).entries)) ≡ all.entries
+      → in_order source_row_cmp (of_parts n (λ i. (parts i).entries)) ≡ all.entries
   pub digests : (p : List ℕ → ℕ) (n : ℕ) (E : List EventValue) (parts : ℕ → Sources) (all : Sources)
       → FallsBelow p n → ((i : ℕ) → i < n → Digests (part p i E) (parts i)) → Digests E all
-      → (in_order row_cmp (of_parts n (λ i. (parts i).entries)) ≡ all.entries)
+      → (in_order source_row_cmp (of_parts n (λ i. (parts i).entries)) ≡ all.entries)
       × ((i : ℕ) → i < n → parts i ≡ of_part p i all)
 
 -- what comes, the set of it, and a union are those of the parts, part by part

@@ -3,14 +3,14 @@ use Rattle.std.specs.Prelude.{◌≡◌, ◌≢◌, ◌++◌, ℕ, List, [], ◌
 use Rattle.std.specs.List.{AllByRecursion}
 
 -- there is no LF
-abbrev pub IsPlain : List ℕ → Type 0
-IsPlain bytes = AllByRecursion (λ b. b ≢ 10) bytes
+abbrev pub IsOneLine : List ℕ → Type 0
+IsOneLine bytes = AllByRecursion (λ b. b ≢ 10) bytes
 
 -- the text has the lines of the rows, one behind the other, each with an LF at its end
 abbrev pub AreLinesOf : {X : Type 0} → (X → List ℕ → Type 0) → List X → List ℕ → Type 0
 AreLinesOf is_line [] text = text ≡ []
 AreLinesOf is_line (row ∷ rows) text =
-    (line : List ℕ) × (rest : List ℕ) × is_line row line × IsPlain line
+    (line : List ℕ) × (rest : List ℕ) × is_line row line × IsOneLine line
     × (text ≡ line ++ 10 ∷ rest) × AreLinesOf is_line rows rest
 
 -- what one text tells behind what another does, each text telling its own

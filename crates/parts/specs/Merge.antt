@@ -12,13 +12,13 @@ use Rattle.views.specs.Latest.{entity_cmp}
 use Rattle.parts.specs.Part.{falls_to}
 
 -- rows that begin with a source: those whose source falls to part i
-abbrev pub rows_of : {X : Type 0} → (List ℕ → ℕ) → ℕ → List (List ℕ × X) → List (List ℕ × X)
-rows_of p i rows = filter (λ r. falls_to p i r.0) rows
+abbrev pub rows_of_part : {X : Type 0} → (List ℕ → ℕ) → ℕ → List (List ℕ × X) → List (List ℕ × X)
+rows_of_part p i rows = filter (λ r. falls_to p i r.0) rows
 
 -- what a summary tells of the sources that fall to part i
 abbrev pub of_part : (List ℕ → ℕ) → ℕ → Sources → Sources
 of_part p i s =
-    record { entries = rows_of p i s.entries; digests = option_map (rows_of p i) s.digests }
+    record { entries = rows_of_part p i s.entries; digests = option_map (rows_of_part p i) s.digests }
 
 -- rows of counts, which may have a key more than once: each key once, in order, with the sum of its
 -- counts
@@ -29,8 +29,8 @@ added R rows =
 -- ---- the orders in which lines of parts are merged
 
 -- rows by source
-abbrev pub row_cmp : {X : Type 0} → List ℕ × X → List ℕ × X → Ordering
-row_cmp r t = byte_cmp r.0 t.0
+abbrev pub source_row_cmp : {X : Type 0} → List ℕ × X → List ℕ × X → Ordering
+source_row_cmp r t = byte_cmp r.0 t.0
 
 -- conflicts by source, then id
 abbrev pub conflict_cmp : Conflict → Conflict → Ordering

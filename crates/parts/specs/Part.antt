@@ -29,5 +29,5 @@ abbrev pub part_of : ℕ → List ℕ → ℕ
 part_of n source = from_be_bytes w64 (take 8 (sha256 source)) % n
 
 -- a region may be in so many parts
-abbrev pub IsCount : ℕ → Type 0
-IsCount n = (1 ≤ n) × (n ≤ 65536)
+abbrev pub IsCountOfParts : ℕ → Type 0
+IsCountOfParts n = (1 ≤ n) × (n ≤ 65536)

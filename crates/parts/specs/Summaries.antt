@@ -2,7 +2,7 @@
 use Rattle.std.specs.Prelude.{◌≡◌, ◌≢◌, ◌<◌, ℕ, List, [], Some, length, map, slice_get, string_bytes}
 use Rattle.std.specs.List.{AllByRecursion}
 use Rattle.attributes.specs.Event.{EventValue}
-use Rattle.coverage.specs.Digests.{Digests, digest_at}
+use Rattle.coverage.specs.Digests.{Digests, block_digest_at}
 use Rattle.coverage.specs.Summary.{Sources, numbers_of}
 use Rattle.coverage.specs.SummaryText.{summary_text}
 use Rattle.views.specs.Line.{line}
@@ -65,7 +65,7 @@ IsAlone summaries n i source =
 -- the two tell the same of the source: its numbers, and the digests of its blocks
 abbrev pub TellAlike : Sources → Sources → List ℕ → Type 0
 TellAlike s t source = (numbers_of s source ≡ numbers_of t source)
-    × ((k : ℕ) → digest_at s source k ≡ digest_at t source k)
+    × ((k : ℕ) → block_digest_at s source k ≡ block_digest_at t source k)
 
 -- of a source that just one of the first n summaries has, the whole tells what that one does; it
 -- has no number of a source that none of them has

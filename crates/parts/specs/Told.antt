@@ -2,7 +2,7 @@
 use Rattle.std.specs.Prelude.{◌≡◌, ◌<◌, ℕ, List, [], ◌∷◌, Some, flat_map, slice_get, string_bytes, ⊤}
 use Rattle.std.specs.List.Sorted.{IsStrictlySortedBy}
 use Rattle.attributes.specs.Event.{EventValue}
-use Rattle.block_digests.specs.Number.{AreNumbered}
+use Rattle.block_digests.specs.Number.{HaveEachNumber}
 use Rattle.coverage.specs.Summary.{Sources}
 use Rattle.inbox.specs.Conflicts.{conflicts}
 use Rattle.inbox.specs.KeyOrder.{key_cmp}
@@ -21,15 +21,15 @@ use Rattle.parts.specs.declared.fault.CombineFault.TheVariants.{OutOfMemory, Not
 -- the list is a set of numbered events, as a region holds it: in key order, each once
 pub record IsHeld (E : List EventValue) : Type 0 where
   pub events : AreEvents E
-  pub numbered : AreNumbered E
+  pub numbered : HaveEachNumber E
   pub sorted : IsStrictlySortedBy key_cmp E
 
 -- the events that an answer tells, in its order; none, where its lines tell none
-abbrev pub told : Query → List EventValue → List EventValue
-told query.Shown E = shown E
-told query.Conflicts E = flat_map (λ c. c.events) (conflicts E)
-told query.Latest E = latest E
-told _ E = []
+abbrev pub events_told : Query → List EventValue → List EventValue
+events_told query.Shown E = shown E
+events_told query.Conflicts E = flat_map (λ c. c.events) (conflicts E)
+events_told query.Latest E = latest E
+events_told _ E = []
 
 -- the questions whose answers tell events
 abbrev pub IsOfEvents : Query → Type 0
@@ -48,7 +48,7 @@ pub record TellsEvents (query : Query) (text : List ℕ) (events : List EventVal
   pub are_events : AreEvents events
   pub answer : IsAnswer query (set_of events) text
   pub own : (E : List EventValue) → IsHeld E → IsAnswer query E text
-      → events ≡ set_of (told query E)
+      → events ≡ set_of (events_told query E)
 
 -- the set has just the events that the text tells
 abbrev pub TellsSet : Query → List ℕ → List EventValue → Type 0

@@ -1,16 +1,17 @@
 -- Answers of the parts of a set, and the answer over the set.
-use Rattle.std.specs.Prelude.{◌⊎◌, ℕ, ℤ, List}
+use Rattle.std.specs.Prelude.{◌⊎◌, ℕ, ℤ, Bool, List, false, true}
 use Rattle.attributes.specs.Bytes.{byte_cmp}
 use Rattle.attributes.specs.Event.{EventValue}
 use Rattle.views.specs.Tally.{day_cmp}
 use Rattle.views.specs.declared.query.Query.{Query}
 use Rattle.views.specs.declared.query.Query.TheVariants as query
-use Rattle.parts.specs.Combined.{AreAnswers, AreApartCovers, Refuses}
+use Rattle.parts.specs.Combined.{AreAnswers, AreApartCovers, RefusesCovers}
 use Rattle.parts.specs.Counts.{AreAnswersBeside, AreBeside, AreDays, AreKinds, RefusesBeside, RefusesCounts}
 use Rattle.parts.specs.Gaps.{AreGapsBeside, RefusesGaps}
 use Rattle.parts.specs.Lines.{AreJoined}
 use Rattle.parts.specs.Told.{AreToldApart, RefusesTold}
 use Rattle.parts.specs.declared.fault.CombineFault.{CombineFault}
+use Rattle.parts.specs.declared.fault.CombineFault.TheVariants as fault
 
 -- the texts answer the question over the parts of E. An answer to `cover` or `shown` shows each
 -- source of its part; beside the others stand the parts' answers to `cover`
@@ -33,7 +34,7 @@ AreApartIn q answers covers = AreBeside answers covers × AreToldApart q answers
 
 -- what is true of texts that are refused with the fault
 abbrev pub RefusesParts : Query → List (List ℕ) → List (List ℕ) → CombineFault → Type 0
-RefusesParts query.Cover answers covers f = Refuses answers f
+RefusesParts query.Cover answers covers f = RefusesCovers answers f
 RefusesParts query.Shown answers covers f = RefusesTold query.Shown answers f
 RefusesParts query.Kinds answers covers f =
     RefusesBeside answers covers f ⊎ RefusesCounts AreKinds byte_cmp answers f
@@ -42,3 +43,18 @@ RefusesParts query.Days answers covers f =
 RefusesParts query.Gaps answers covers f =
     RefusesBeside answers covers f ⊎ RefusesGaps answers covers f
 RefusesParts q answers covers f = RefusesBeside answers covers f ⊎ RefusesTold q answers f
+
+-- beside the answers to the question the covers of the parts stand
+abbrev pub has_covers : Query → Bool
+has_covers query.Cover = false
+has_covers query.Shown = false
+has_covers query.Conflicts = true
+has_covers query.Latest = true
+has_covers query.Kinds = true
+has_covers query.Days = true
+has_covers query.Gaps = true
+
+-- the fault of an answer that is none to the question
+abbrev pub no_answer : Query → ℕ → CombineFault
+no_answer query.Cover i = fault.NotACover i
+no_answer _ i = fault.NotAnAnswer i

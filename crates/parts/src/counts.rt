@@ -5,7 +5,7 @@ ghost use Rattle.std.specs.BTreeMap.{get, insert_entry};
 ghost use Rattle.std.specs.Cmp.{IsTotalOrder};
 ghost use Rattle.std.specs.Option.{option_map_or};
 ghost use Rattle.parts.specs.Combined.{AreApart, AreCovers};
-ghost use Rattle.parts.specs.Counts.{AreBeside, RefusesBeside, RefusesTexts, TellsNone};
+ghost use Rattle.parts.specs.Counts.{AreBeside, RefusesBeside, RefusesAnswers, TellsNoRows};
 ghost use Rattle.parts.specs.Lines.{AreJoined};
 
 use crate::cover::{check_apart, read_covers};
@@ -19,7 +19,7 @@ use std::collections::BTreeMap;
 /// A row of an answer that has counts.
 pub(crate) trait CountRow: Drop {
     ghost use Rattle.std.specs.Prelude.{ℕ, List, IfNone, IfOk, IfSome};
-    ghost use Rattle.parts.specs.Counts.{TellsNone};
+    ghost use Rattle.parts.specs.Counts.{TellsNoRows};
 
     /// The text tells the rows.
     ghost tells: { List ℕ → List Self → Type 0 };
@@ -27,7 +27,7 @@ pub(crate) trait CountRow: Drop {
     /// The rows that a text tells, where it tells any.
     fn read_text(alloc: Global, text: &str) -> Result<Option<List<Self>>, AllocError>
         ensures some { IfOk result (λ o. IfSome o (tells text.now)) }
-        ensures none { IfOk result (λ o. IfNone o (TellsNone tells text.now)) };
+        ensures none { IfOk result (λ o. IfNone o (TellsNoRows tells text.now)) };
 }
 
 /// The rows that the answers of all parts tell, part by part.
@@ -36,7 +36,7 @@ pub(crate) fn read_counts<R: CountRow>(
     answers: &[&str],
 ) -> Result<List<R>, CombineFault>
     ensures ok { IfOk result (λ all. AreJoined R.tells (map (λ t. t.now) answers.now) all) }
-    ensures err { IfErr result (RefusesTexts R.tells (map (λ t. t.now) answers.now)) }
+    ensures err { IfErr result (RefusesAnswers R.tells (map (λ t. t.now) answers.now)) }
 {
     let mut all = List::empty(alloc);
     for i in 0..answers.len() {

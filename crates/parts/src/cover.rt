@@ -6,7 +6,7 @@ ghost use Rattle.coverage.specs.Summary.{Sources};
 ghost use Rattle.views.specs.Line.{cover_line};
 ghost use Rattle.views.specs.Question.{IsAnswer};
 ghost use Rattle.views.specs.declared.query.Query.TheVariants as query;
-ghost use Rattle.parts.specs.Combined.{AreAnswers, AreApart, AreApartCovers, AreCovers, HasSource, IsFirst, IsNoLineOf, IsOfVersion, IsUnited, Refuses, RefusesRead, ShareNone};
+ghost use Rattle.parts.specs.Combined.{AreAnswers, AreApart, AreApartCovers, AreCovers, HasSource, IsOfFirstVersion, IsNoLineOf, IsOfVersion, HoldsUnion, RefusesCovers, RefusesRead, ShareNone};
 
 use crate::fault::CombineFault;
 use attributes::Text;
@@ -49,7 +49,7 @@ pub(crate) fn read_of_version(
 /// The summaries that texts answer `cover` with.
 pub(crate) fn read_covers(alloc: Global, covers: &[&str]) -> Result<Vec<Summary>, CombineFault>
     ensures read { IfOk result (λ v. AreCovers (map (λ t. t.now) covers.now) v.items) }
-    ensures refused { IfErr result (Refuses (map (λ t. t.now) covers.now)) }
+    ensures refused { IfErr result (RefusesCovers (map (λ t. t.now) covers.now)) }
 {
     let mut summaries = Vec::new(alloc);
     for i in 0..covers.len() {
@@ -62,7 +62,7 @@ pub(crate) fn read_covers(alloc: Global, covers: &[&str]) -> Result<Vec<Summary>
     Ok(summaries)
 }
 
-/// Whether a summary has a number of the source.
+/// Whether the cover of a part has a number of the source.
 fn has_source(summary: &Summary, source: &str) -> bool
     ensures { IsTrue result ↔ HasSource summary.now source.now }
 {
@@ -129,8 +129,8 @@ pub(crate) fn check_apart(alloc: Global, summaries: &[Summary]) -> Result<(), Co
 
 /// What all of the summaries hold, as one of version 1.
 pub(crate) fn unite(alloc: Global, summaries: &[Summary]) -> Result<Summary, AllocError>
-    ensures first { IfOk result (λ all. IsFirst all) }
-    ensures united { IfOk result (IsUnited summaries.now) }
+    ensures first { IfOk result (λ all. IsOfFirstVersion all) }
+    ensures united { IfOk result (HoldsUnion summaries.now) }
 {
     let mut all = Summary::empty(alloc);
     for i in 0..summaries.len() {
@@ -146,7 +146,7 @@ fn unite_texts(alloc: Global, covers: &[&str]) -> Result<Text, CombineFault>
         → AreAnswers query.Cover p E (map (λ t. t.now) covers.now)
         → IfOk result (IsAnswer query.Cover E) }
     ensures apart { OnOk result (AreApartCovers (map (λ t. t.now) covers.now)) }
-    ensures refused { IfErr result (Refuses (map (λ t. t.now) covers.now)) }
+    ensures refused { IfErr result (RefusesCovers (map (λ t. t.now) covers.now)) }
 {
     // Laws that the clauses rest on; the calls do nothing.
     answers_are_alike();
@@ -166,7 +166,7 @@ pub(crate) fn combine_covers(alloc: Global, covers: &[&str]) -> Result<Text, Com
         → AreAnswers query.Cover p E (map (λ t. t.now) covers.now)
         → IfOk result (IsAnswer query.Cover E) }
     ensures apart { OnOk result (AreApartCovers (map (λ t. t.now) covers.now)) }
-    ensures refused { IfErr result (Refuses (map (λ t. t.now) covers.now)) }
+    ensures refused { IfErr result (RefusesCovers (map (λ t. t.now) covers.now)) }
 
     // Answers over the parts of a set want memory alone.
     ensures taken { (p : List ℕ → ℕ) (E : List EventValue)

@@ -10,7 +10,7 @@ ghost use Rattle.views.specs.Question.{IsAnswer};
 ghost use Rattle.views.specs.Tally.{day_cmp};
 ghost use Rattle.views.specs.declared.query.Query.TheVariants as query;
 ghost use Rattle.parts.specs.Combined.{AreAnswers};
-ghost use Rattle.parts.specs.Counts.{AreBeside, AreCounts, AreDays, IsCounted, IsSummed, RefusesBeside, RefusesCounts, RefusesSums, TellsNone};
+ghost use Rattle.parts.specs.Counts.{AreBeside, AreCounts, AreDays, IsCounted, IsSummed, RefusesBeside, RefusesCounts, RefusesSums, TellsNoRows};
 ghost use Rattle.parts.specs.Lines.{AreJoined};
 ghost use Rattle.parts.specs.Merge.{added};
 
@@ -135,7 +135,7 @@ fn print_days(alloc: Global, rows: &List<DayCount>) -> Result<Text, AllocError>
 /// The types, days and counts that a text tells, where it is such an answer.
 fn read_days(alloc: Global, text: &str) -> Result<Option<List<DayCount>>, AllocError>
     ensures some { IfOk result (λ o. IfSome o (AreDays text.now)) }
-    ensures none { IfOk result (λ o. IfNone o (TellsNone AreDays text.now)) }
+    ensures none { IfOk result (λ o. IfNone o (TellsNoRows AreDays text.now)) }
 {
     // A law that the clauses rest on; the call does nothing.
     exact_json_reads_back();

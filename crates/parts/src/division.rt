@@ -1,7 +1,7 @@
 //! Which part an event falls to.
 
 ghost use Rattle.std.specs.Prelude.{◌≡◌, ◌<◌, ◌↔◌, [], ℕ, IfOk, IsTrue, Some, slice_get, vec_len};
-ghost use Rattle.parts.specs.Part.{IsCount, part, part_of};
+ghost use Rattle.parts.specs.Part.{IsCountOfParts, part, part_of};
 
 use attributes::Batch;
 use sha2::{Digest, Sha256};
@@ -12,7 +12,7 @@ pub const MAX_PARTS: u64 = 65_536;
 
 /// Whether a region may be in so many parts: from 1 to `MAX_PARTS`.
 pub fn is_count(count: u64) -> bool
-    ensures { IsTrue result ↔ IsCount count }
+    ensures { IsTrue result ↔ IsCountOfParts count }
 {
     1 <= count && count <= MAX_PARTS
 }
@@ -21,7 +21,7 @@ pub fn is_count(count: u64) -> bool
 /// (FIPS 180-4) as a number, the greatest byte first, modulo `count`. Fixed for ever: whoever parts
 /// a region anew by another rule finds a source in two parts. Time in proportion to the source.
 pub fn part_of(source: &[u8], count: u64) -> u64
-    requires { IsCount count }
+    requires { IsCountOfParts count }
     ensures part { result ≡ part_of count source.now }
     ensures below { result < count }
 {
@@ -36,7 +36,7 @@ pub fn part_of(source: &[u8], count: u64) -> u64
 /// not copied. Time in proportion to the events and the parts, memory to the parts and 8 bytes or
 /// so an event. `AllocError` where memory is refused, and then the events are gone.
 pub fn split(alloc: Global, events: Batch, count: u64) -> Result<Vec<Batch>, AllocError>
-    requires { IsCount count }
+    requires { IsCountOfParts count }
     ensures len { IfOk result (λ parts. vec_len parts ≡ count) }
     ensures parts { IfOk result (λ parts. (i : ℕ) → i < count
         → slice_get parts.items i ≡ Some (part (part_of count) i events)) }
@@ -52,7 +52,7 @@ pub fn split(alloc: Global, events: Batch, count: u64) -> Result<Vec<Batch>, All
 
 /// So many batches without events.
 fn empty_parts(alloc: Global, count: u64) -> Result<Vec<Batch>, AllocError>
-    requires { IsCount count }
+    requires { IsCountOfParts count }
     ensures len { IfOk result (λ parts. vec_len parts ≡ count) }
     ensures parts { IfOk result (λ parts. (i : ℕ) → i < count
         → slice_get parts.items i ≡ Some []) }

@@ -43,7 +43,7 @@ impl From<AllocError> for CombineFault {
 
     ghost from_gives = { λ _ e. e ≡ OutOfMemory };
 
-    /// Want of memory.
+    /// Want of memory while answers of parts are put together.
     fn from(_refused: AllocError) -> CombineFault {
         CombineFault::OutOfMemory
     }
@@ -55,7 +55,7 @@ impl<T: Drop> From<AllocFailed<T>> for CombineFault {
 
     ghost from_gives = { λ _ e. e ≡ OutOfMemory };
 
-    /// Want of memory.
+    /// Want of memory while answers of parts are put together.
     fn from(_refused: AllocFailed<T>) -> CombineFault {
         CombineFault::OutOfMemory
     }

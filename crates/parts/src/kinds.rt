@@ -10,7 +10,7 @@ ghost use Rattle.views.specs.Question.{IsAnswer};
 ghost use Rattle.views.specs.declared.query.Answer.TheVariants as answer_of;
 ghost use Rattle.views.specs.declared.query.Query.TheVariants as query;
 ghost use Rattle.parts.specs.Combined.{AreAnswers};
-ghost use Rattle.parts.specs.Counts.{AreBeside, AreCounts, AreKindLines, AreKinds, IsCounted, IsSummed, RefusesBeside, RefusesCounts, RefusesSums, TellsNone};
+ghost use Rattle.parts.specs.Counts.{AreBeside, AreCounts, AreKindLines, AreKinds, IsCounted, IsSummed, RefusesBeside, RefusesCounts, RefusesSums, TellsNoRows};
 ghost use Rattle.parts.specs.Lines.{AreJoined};
 ghost use Rattle.parts.specs.Merge.{added};
 
@@ -88,7 +88,7 @@ fn kinds_in(answer: Answer) -> Option<Kinds>
 /// The types and counts that a text tells, where it is such an answer.
 fn read_kinds(alloc: Global, text: &str) -> Result<Option<Kinds>, AllocError>
     ensures some { IfOk result (λ o. IfSome o (AreKinds text.now)) }
-    ensures none { IfOk result (λ o. IfNone o (TellsNone AreKinds text.now)) }
+    ensures none { IfOk result (λ o. IfNone o (TellsNoRows AreKinds text.now)) }
 {
     // A law that the clauses rest on; the call does nothing.
     exact_json_reads_back();

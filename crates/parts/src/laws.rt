@@ -1,13 +1,13 @@
 //! Laws of parts, each as the contract of a function that does nothing.
 
-ghost use Rattle.parts.specs.Law.{ConflictsPart, DeltasPart, LatestPart, NumbersPart, PartsAdd, PartsAreFew, PartsJoin, PartsMerge, PartsTake, ShownPart, SummariesJoin};
+ghost use Rattle.parts.specs.Law.{ConflictsPart, DeltasPart, LatestPart, NumbersOfPart, PartsAdd, PartsAreFew, PartsJoin, PartsMerge, PartsTake, ShownPart, SummariesJoin};
 
 use attributes::laws::text_tells_events;
 use coverage::laws::{numbers_tell_summaries, sets_have_one_summary};
 
 /// The numbers of a part are those of its sources, and so are its gaps.
 pub fn numbers_part()
-    ensures { NumbersPart }
+    ensures { NumbersOfPart }
 {}
 
 /// The shown events of a part are those of the whole whose source falls to it.

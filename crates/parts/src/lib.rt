@@ -19,4 +19,4 @@ mod whole;
 pub use division::{MAX_PARTS, is_count, part_of, split};
 pub use fault::CombineFault;
 pub use summaries::combine_summaries;
-pub use whole::combine;
+pub use whole::{combine, has_covers, no_answer};

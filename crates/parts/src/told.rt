@@ -10,7 +10,7 @@ ghost use Rattle.views.specs.Question.{IsAnswer};
 ghost use Rattle.views.specs.declared.query.Query.{Query};
 ghost use Rattle.views.specs.declared.query.Query.TheVariants as query;
 ghost use Rattle.parts.specs.Combined.{AreAnswers};
-ghost use Rattle.parts.specs.Told.{AreGathered, AreToldApart, IsHeld, IsNoAnswer, IsOfEvents, IsToldTogether, RefusesTold, TellsSet, told};
+ghost use Rattle.parts.specs.Told.{AreGathered, AreToldApart, IsHeld, IsNoAnswer, IsOfEvents, IsToldTogether, RefusesTold, TellsSet, events_told};
 
 use crate::cover::check_apart;
 use crate::fault::CombineFault;
@@ -53,7 +53,7 @@ fn flatten(alloc: Global, lists: List<List<Sequenced>>) -> Result<List<Sequenced
 /// The events that a text tells in its lines, where it answers `conflicts` over some set.
 fn read_conflicts(alloc: Global, text: &str) -> Result<Option<List<Sequenced>>, AllocError>
     ensures { IfOk result (λ o. (E : List EventValue) → IsHeld E
-        → IsAnswer query.Conflicts E text.now → o ≡ Some (told query.Conflicts E)) }
+        → IsAnswer query.Conflicts E text.now → o ≡ Some (events_told query.Conflicts E)) }
 {
     // A law that the clause rests on; the call does nothing.
     text_tells_events();
@@ -67,7 +67,7 @@ fn read_conflicts(alloc: Global, text: &str) -> Result<Option<List<Sequenced>>, 
 fn read_told(alloc: Global, query: Query, text: &str) -> Result<Option<List<Sequenced>>, AllocError>
     requires { IsOfEvents query }
     ensures { IfOk result (λ o. (E : List EventValue) → IsHeld E → IsAnswer query E text.now
-        → o ≡ Some (told query E)) }
+        → o ≡ Some (events_told query E)) }
 {
     // A law that the clause rests on; the call does nothing.
     text_tells_events();

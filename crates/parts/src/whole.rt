@@ -6,7 +6,7 @@ ghost use Rattle.views.specs.Question.{IsAnswer};
 ghost use Rattle.parts.specs.Combined.{AreAnswers};
 ghost use Rattle.parts.specs.Counts.{AreBeside, RefusesBeside};
 ghost use Rattle.parts.specs.Told.{AreToldApart, IsHeld, IsOfEvents, RefusesTold};
-ghost use Rattle.parts.specs.Whole.{AreApartIn, ArePartsOf, RefusesParts};
+ghost use Rattle.parts.specs.Whole.{AreApartIn, ArePartsOf, RefusesParts, has_covers, no_answer};
 
 use crate::counts::check_beside;
 use crate::cover::combine_covers;
@@ -83,4 +83,24 @@ fn combine_beside(
 {
     check_beside(alloc, answers, covers)?;
     combine_events(alloc, query, answers)
+}
+
+/// Whether the covers of the parts stand beside their answers to the question.
+pub fn has_covers(query: Query) -> bool
+    ensures { result ≡ has_covers query }
+{
+    match query {
+        Query::Cover | Query::Shown => false,
+        Query::Conflicts | Query::Latest | Query::Kinds | Query::Days | Query::Gaps => true,
+    }
+}
+
+/// The fault of an answer that is none to the question.
+pub fn no_answer(query: Query, part: u64) -> CombineFault
+    ensures { result ≡ no_answer query part }
+{
+    match query {
+        Query::Cover => CombineFault::NotACover { part },
+        _ => CombineFault::NotAnAnswer { part },
+    }
 }

@@ -7,9 +7,9 @@ use Rattle.std.proofs.lemmas.Bool.Decides.{nat_tests}
 use Rattle.std.proofs.lemmas.List.{length-append}
 use Rattle.attributes.specs.Event.{EventValue}
 use Rattle.site.specs.Gate.{LetsThrough}
-use Rattle.relay.specs.Route.{Has, AreIn, AreOf}
-use Rattle.relay.specs.Fan.{AreSent, HasCause, IsPage, TakesAll, calls_of, joined, rows_between}
-use Rattle.relay.specs.steps.Lane.{Moves, Carries, Each, Hands, HandsOver, IsClosed, IsQuiet, StopsAt, AreAny, AreBetween, calls_to}
+use Rattle.relay.specs.Route.{Has, AreIn, AreFromEither}
+use Rattle.relay.specs.Fan.{AreSent, HasCauseOfFault, IsPage, TakesAll, calls_until, joined, rows_between}
+use Rattle.relay.specs.steps.Lane.{MovesLane, Carries, AllAtPlaces, Hands, HandsOver, IsClosed, IsQuiet, FailsAt, AreAny, AreBetween, calls_to}
 use Rattle.relay.specs.declared.fan.End.TheVariants.{Failed}
 use Rattle.relay.specs.declared.fan.lane.Lane.{Lane}
 use Rattle.relay.specs.declared.fault.RelayFault.{RelayFault}
@@ -64,10 +64,10 @@ sent_shift rows page start mark to h number e low high is =
 pub in_then : (a b c : List EventValue) → AreIn a b → AreIn b c → AreIn a c
 in_then a b c h k e x = k e (h e x)
 
-pub of_then : (a b c rows : List EventValue) → AreOf b a rows → AreOf c b rows → AreOf c a rows
+pub of_then : (a b c rows : List EventValue) → AreFromEither b a rows → AreFromEither c b rows → AreFromEither c a rows
 of_then a b c rows h k e x = elim (k e x) [ inl was ↦ h e was | inr new ↦ inr new ]
 
-pub of_in : (a b page rows : List EventValue) → AreOf b a page → AreIn page rows → AreOf b a rows
+pub of_in : (a b page rows : List EventValue) → AreFromEither b a page → AreIn page rows → AreFromEither b a rows
 of_in a b page rows h k e x = elim (h e x) [ inl was ↦ inl was | inr new ↦ inr (k e new) ]
 
 -- pages after pages
@@ -147,7 +147,7 @@ pub hands_one : {R : Type 0} (takes : R → List EventValue → R → Type 0) (h
 hands_one {R} takes has_failed lets shuts heard old new page sized h goes one let_in told = record {
   before = new.route;
   taken = (new.route, (h, refl));
-  closed = subst (λ (o : Option RelayFault). MatchOption o (new.route ≡ new.route) (HasCause has_failed new.route new.route)) (sym goes) refl;
+  closed = subst (λ (o : Option RelayFault). MatchOption o (new.route ≡ new.route) (HasCauseOfFault has_failed new.route new.route)) (sym goes) refl;
   sized = (sized, tt);
   counted = λ none. one;
   through = subst (λ (o : Option RelayFault). LetsThrough lets heard old.place old.calls (calls_to o 1)) (sym goes) (through_one lets heard old.place old.calls let_in told);
@@ -161,7 +161,7 @@ hands_one {R} takes has_failed lets shuts heard old new page sized h goes one le
 -- the lane was at rest
 pub hands_rest : {R : Type 0} (takes : R → List EventValue → R → Type 0) (has_failed : R → R → Type 0) (lets shuts heard : ℕ → ℕ → Type 0) (lane : Lane R) → lane.fault ≡ None → Hands takes has_failed lets shuts heard lane lane []
 hands_rest takes has_failed lets shuts heard lane goes =
-    hands_none takes has_failed lets shuts heard lane lane (subst (λ (o : Option RelayFault). MatchOption o (lane.route ≡ lane.route) (HasCause has_failed lane.route lane.route)) (sym goes) refl)
+    hands_none takes has_failed lets shuts heard lane lane (subst (λ (o : Option RelayFault). MatchOption o (lane.route ≡ lane.route) (HasCauseOfFault has_failed lane.route lane.route)) (sym goes) refl)
     (λ none. refl) (subst (λ (o : Option RelayFault). LetsThrough lets heard lane.place lane.calls (calls_to o 0)) (sym goes) (through_none lets heard lane.place lane.calls)) (λ s. let no : ⊥ = none_some lane.fault GateShut goes s in absurd no)
   where
     none_some : (o : Option RelayFault) (f : RelayFault) → o ≡ None → o ≡ Some f → ⊥
@@ -178,7 +178,7 @@ over_then {R} takes has_failed lets shuts heard P Q T a b c place idle same both
     go : (o : Option RelayFault) → b.fault ≡ o → (pages : List (List EventValue)) × (Hands takes has_failed lets shuts heard a c pages × T pages)
     go None is =
         let second : (pages : List (List EventValue)) × (Hands takes has_failed lets shuts heard b c pages × Q pages) = k is in
-        let there : b.route ≡ first.1.0.before = subst (λ (x : Option RelayFault). MatchOption x (b.route ≡ first.1.0.before) (HasCause has_failed first.1.0.before b.route)) is first.1.0.closed in
+        let there : b.route ≡ first.1.0.before = subst (λ (x : Option RelayFault). MatchOption x (b.route ≡ first.1.0.before) (HasCauseOfFault has_failed first.1.0.before b.route)) is first.1.0.closed in
         let many : length (first.0 ++ second.0) ≡ length first.0 + length second.0 = length-append first.0 second.0 in
         let made : b.calls ≡ a.calls + length first.0 = first.1.0.counted is in
         let before : LetsThrough lets heard a.place a.calls (length first.0) = subst (λ (x : Option RelayFault). LetsThrough lets heard a.place a.calls (calls_to x (length first.0))) is first.1.0.through in
@@ -212,10 +212,10 @@ over_between {R} takes has_failed lets shuts heard base rows a b c place idle lo
     (λ ps qs p q. joined_then ps qs ∙ ap (λ l. l ++ joined qs) p ∙ ap (λ l. rows_between base rows a.relay.mark b.relay.mark ++ l) q ∙ between_then base rows a.relay.mark b.relay.mark c.relay.mark low high)
     h k
 
-pub moves_none : {R : Type 0} (accepted : R → List EventValue) (takes : R → List EventValue → R → Type 0) (has_failed : R → R → Type 0) (lets shuts heard : ℕ → ℕ → Type 0) (lane : Lane R) → Moves accepted takes has_failed lets shuts heard lane lane
+pub moves_none : {R : Type 0} (accepted : R → List EventValue) (takes : R → List EventValue → R → Type 0) (has_failed : R → R → Type 0) (lets shuts heard : ℕ → ℕ → Type 0) (lane : Lane R) → MovesLane accepted takes has_failed lets shuts heard lane lane
 moves_none accepted takes has_failed lets shuts heard lane = record { place = refl; site = refl; forward = omega arith; kept = λ e x. x; handed = λ goes. ([], (hands_rest takes has_failed lets shuts heard lane goes, tt)); idle = λ h. refl }
 
-pub moves_then : {R : Type 0} (accepted : R → List EventValue) (takes : R → List EventValue → R → Type 0) (has_failed : R → R → Type 0) (lets shuts heard : ℕ → ℕ → Type 0) (a b c : Lane R) → Moves accepted takes has_failed lets shuts heard a b → Moves accepted takes has_failed lets shuts heard b c → Moves accepted takes has_failed lets shuts heard a c
+pub moves_then : {R : Type 0} (accepted : R → List EventValue) (takes : R → List EventValue → R → Type 0) (has_failed : R → R → Type 0) (lets shuts heard : ℕ → ℕ → Type 0) (a b c : Lane R) → MovesLane accepted takes has_failed lets shuts heard a b → MovesLane accepted takes has_failed lets shuts heard b c → MovesLane accepted takes has_failed lets shuts heard a c
 moves_then accepted takes has_failed lets shuts heard a b c h k = record {
   place = k.place ∙ h.place;
   site = k.site ∙ h.site;
@@ -248,9 +248,9 @@ carries_then accepted takes has_failed lets shuts heard start rows a b c h k = r
 
 -- what a lane that stopped did to its route, and what of that the gate let through
 abbrev pub Stops : {R : Type 0} → (R → R → Type 0) → (ℕ → ℕ → Type 0) → (ℕ → ℕ → Type 0) → (ℕ → ℕ → Type 0) → ℕ → ℕ → R → R → RelayFault → Type 0
-Stops has_failed lets shuts heard worker calls old new f = HasCause has_failed old new f × (LetsThrough lets heard worker calls (calls_of (Failed f) 0) × (f ≡ GateShut → shuts worker (calls + 1)))
+Stops has_failed lets shuts heard worker calls old new f = HasCauseOfFault has_failed old new f × (LetsThrough lets heard worker calls (calls_until (Failed f) 0) × (f ≡ GateShut → shuts worker (calls + 1)))
 
-pub stops_at : {R : Type 0} (has_failed : R → R → Type 0) (lets shuts heard : ℕ → ℕ → Type 0) (worker calls call : ℕ) (old new : R) (f : RelayFault) → call ≡ calls + 1 → StopsAt has_failed lets shuts heard worker call old new f → Stops has_failed lets shuts heard worker calls old new f
+pub stops_at : {R : Type 0} (has_failed : R → R → Type 0) (lets shuts heard : ℕ → ℕ → Type 0) (worker calls call : ℕ) (old new : R) (f : RelayFault) → call ≡ calls + 1 → FailsAt has_failed lets shuts heard worker call old new f → Stops has_failed lets shuts heard worker calls old new f
 stops_at has_failed lets shuts heard worker calls call old new OutOfMemory is h = absurd h
 stops_at has_failed lets shuts heard worker calls call old new RouteFailed is h = (h.0, (through_one lets heard worker calls (subst (λ z. lets worker z) is h.1.0) (subst (λ z. heard worker z) is h.1.1), λ s. absurd (cc)))
 stops_at has_failed lets shuts heard worker calls call old new Stranger is h = absurd h
@@ -268,7 +268,7 @@ stops_quiet has_failed lets shuts heard worker calls old new GateShut same h = e
 
 -- a lane that stopped before or at a send: its mark is as it was
 pub carries_stop : {R : Type 0} (accepted : R → List EventValue) (takes : R → List EventValue → R → Type 0) (has_failed : R → R → Type 0) (lets shuts heard : ℕ → ℕ → Type 0) (start : ℕ) (rows : List EventValue) (old new : Lane R) (f : RelayFault) → old.fault ≡ None → new.place ≡ old.place → new.relay ≡ old.relay → new.fault ≡ Some f → Stops has_failed lets shuts heard old.place old.calls old.route new.route f
-    → AreIn (accepted old.route) (accepted new.route) → AreOf (accepted new.route) (accepted old.route) rows → Carries accepted takes has_failed lets shuts heard start rows old new
+    → AreIn (accepted old.route) (accepted new.route) → AreFromEither (accepted new.route) (accepted old.route) rows → Carries accepted takes has_failed lets shuts heard start rows old new
 carries_stop {R} accepted takes has_failed lets shuts heard start rows old new f going place same stop cause kept of = record {
   moves = record {
     place = place;
@@ -293,7 +293,7 @@ carries_stop {R} accepted takes has_failed lets shuts heard start rows old new f
     one_fault None g is h = absurd (cc)
 
     hands : Hands takes has_failed lets shuts heard old new []
-    hands = hands_none takes has_failed lets shuts heard old new (subst (λ (o : Option RelayFault). MatchOption o (new.route ≡ old.route) (HasCause has_failed old.route new.route)) (sym stop) cause.0)
+    hands = hands_none takes has_failed lets shuts heard old new (subst (λ (o : Option RelayFault). MatchOption o (new.route ≡ old.route) (HasCauseOfFault has_failed old.route new.route)) (sym stop) cause.0)
         (λ none. let no : ⊥ = some_none new.fault stop none in absurd no) (subst (λ (o : Option RelayFault). LetsThrough lets heard old.place old.calls (calls_to o 0)) (sym stop) cause.1.0) (λ shut. cause.1.1 (one_fault new.fault GateShut stop shut))
 
     none_some : (o : Option RelayFault) → o ≡ None → IsSome o → ⊥
@@ -310,7 +310,7 @@ carries_quiet accepted takes has_failed lets shuts heard start rows old new f go
 -- a lane whose route accepted the next page
 pub carries_page : {R : Type 0} (accepted : R → List EventValue) (takes : R → List EventValue → R → Type 0) (has_failed : R → R → Type 0) (lets shuts heard : ℕ → ℕ → Type 0) (start : ℕ) (rows page : List EventValue) (old new : Lane R) → old.fault ≡ None → new.fault ≡ None → new.place ≡ old.place → new.calls ≡ old.calls + 1 → lets old.place (old.calls + 1) → heard old.place (old.calls + 1)
     → new.relay.site ≡ old.relay.site → old.relay.mark ≤ new.relay.mark → new.relay.mark ≤ start + length rows → AreSent start rows old.relay.mark new.relay.mark page → AreIn page rows → page ≡ rows_between start rows old.relay.mark new.relay.mark → IsPage page → takes old.route page new.route
-    → AreIn page (accepted new.route) → AreIn (accepted old.route) (accepted new.route) → AreOf (accepted new.route) (accepted old.route) page → Carries accepted takes has_failed lets shuts heard start rows old new
+    → AreIn page (accepted new.route) → AreIn (accepted old.route) (accepted new.route) → AreFromEither (accepted new.route) (accepted old.route) page → Carries accepted takes has_failed lets shuts heard start rows old new
 carries_page {R} accepted takes has_failed lets shuts heard start rows page old new going goes place one let_in told same low high there rows-in exact sized took sent kept of = record {
   moves = record {
     place = place;
@@ -354,7 +354,7 @@ between_length start rows from to high = go (from - start) (to - start) rows hig
     go zero (suc m) (x ∷ l) low = ap suc (go zero m l (omega (arith, low)) ∙ (let k : m - 0 ≡ m = omega arith in k)) ∙ (let k : suc m ≡ suc m - 0 = omega arith in k)
     go (suc n) (suc m) (x ∷ l) low = go n m l (omega (arith, low)) ∙ (let k : m - n ≡ suc m - suc n = omega arith in k)
 
-pub each_length : {A : Type 0} → {B : Type 0} (Holds : A → B → Type 0) (xs : List A) (ys : List B) → Each Holds xs ys → length ys ≡ length xs
+pub each_length : {A : Type 0} → {B : Type 0} (Holds : A → B → Type 0) (xs : List A) (ys : List B) → AllAtPlaces Holds xs ys → length ys ≡ length xs
 each_length Holds [] [] h = refl
 each_length Holds [] (y ∷ ys) h = absurd h
 each_length Holds (x ∷ xs) [] h = absurd h

@@ -3,7 +3,7 @@ use Rattle.std.proofs.Common.{◌≡◌, ◌⊎◌, ◌+◌, ◌<◌, ◌≤◌,
 use Rattle.std.proofs.lemmas.List.{take_more, take_all}
 use Rattle.std.proofs.lemmas.Option.{get_or_from_slice_get, slice_get_within}
 use Rattle.attributes.specs.Event.{EventValue}
-use Rattle.relay.specs.Route.{Has, AreIn, AreOf}
+use Rattle.relay.specs.Route.{Has, AreIn, AreFromEither}
 
 pub has_left : (a b : List EventValue) (e : EventValue) → Has a e → Has (a ++ b) e
 has_left [] b e h = absurd h
@@ -41,7 +41,7 @@ append_one batch old mid new i e at h is =
 pub in_appended : (batch old new : List EventValue) (i : ℕ) → Appended batch old i new → AreIn old new
 in_appended batch old new i h e k = subst (λ x. Has x e) (sym h) (has_left old (take i batch) e k)
 
-pub of_appended : (batch old new : List EventValue) (i : ℕ) → Appended batch old i new → AreOf new old batch
+pub of_appended : (batch old new : List EventValue) (i : ℕ) → Appended batch old i new → AreFromEither new old batch
 of_appended batch old new i h e k = elim (has_either old (take i batch) e (subst (λ x. Has x e) h k)) [ inl was ↦ inl was | inr new ↦ inr (has_taken i batch e new) ]
 
 pub all_appended : (batch old new : List EventValue) (i : ℕ) → length batch ≤ i → Appended batch old i new → AreIn batch new

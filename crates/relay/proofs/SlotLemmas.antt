@@ -4,10 +4,10 @@ use Rattle.std.proofs.lemmas.Bool.{cases_lt}
 use Rattle.sqlite.specs.Effect.{Database}
 use Rattle.sqlite.specs.State.{State, HasCleanDisk}
 use Rattle.attributes.specs.Event.{EventValue}
-use Rattle.outbox.specs.Call.{IsSame}
+use Rattle.outbox.specs.Call.{IsServiceReading}
 use Rattle.outbox.specs.Row.{rows_of}
 use Rattle.relay.specs.Fan.{AreSent}
-use Rattle.relay.specs.steps.Lane.{Moves, Carries, Hands, AreBetween, Comes, Rests, Honestly, Each, IsWindow}
+use Rattle.relay.specs.steps.Lane.{MovesLane, Carries, Hands, AreBetween, Comes, Rests, Honestly, AllAtPlaces, IsWindow}
 use Rattle.relay.specs.steps.Slot.{IsOf, Lands, Starts}
 use Rattle.relay.specs.declared.fault.RelayFault.{RelayFault}
 use Rattle.relay.specs.declared.fan.lane.Lane.{Lane}
@@ -31,14 +31,14 @@ carries_on {R} accepted takes has_failed lets shuts heard base all start rows w 
       (was.0, (was.1.0, was.1.1 ∙ between_window base all start x.relay.mark rows x.relay.mark y.relay.mark w low top (omega arith) c.moves.forward c.within));
 }
 
-honest_later : (source : List ℕ) (base : ℕ) (db : Database) (b c : State) (P : List EventValue → Type 0) → IsSame b c → Honestly source base db b P → Honestly source base db c P
+honest_later : (source : List ℕ) (base : ℕ) (db : Database) (b c : State) (P : List EventValue → Type 0) → IsServiceReading b c → Honestly source base db b P → Honestly source base db c P
 honest_later source base db b c P same h clean commands is = h (omega (arith, clean, same.clean)) commands is
 
 module _ {R : Type 0} (accepted : R → List EventValue) (takes : R → List EventValue → R → Type 0) (has_failed : R → R → Type 0) (lets shuts heard : ℕ → ℕ → Type 0) (source : List ℕ) (base : ℕ) where
   pub comes_none : (db : Database) (s : State) (lane : Lane R) → Comes accepted takes has_failed lets shuts heard source base db s lane lane
   comes_none db s lane = record { moves = moves_none accepted takes has_failed lets shuts heard lane; carries = λ clean commands is. carries_none accepted takes has_failed lets shuts heard base _ lane }
 
-  pub comes_later : (db : Database) (b c : State) (old new : Lane R) → IsSame b c → Comes accepted takes has_failed lets shuts heard source base db b old new → Comes accepted takes has_failed lets shuts heard source base db c old new
+  pub comes_later : (db : Database) (b c : State) (old new : Lane R) → IsServiceReading b c → Comes accepted takes has_failed lets shuts heard source base db b old new → Comes accepted takes has_failed lets shuts heard source base db c old new
   comes_later db b c old new same h = record { moves = h.moves; carries = honest_later source base db b c (λ rows. Carries accepted takes has_failed lets shuts heard base rows old new) same h.carries }
 
   -- a window more
@@ -57,11 +57,11 @@ module _ {R : Type 0} (accepted : R → List EventValue) (takes : R → List Eve
   }
 
   -- a lane that stopped has ended
-  pub rests_stopped : (db : Database) (b c : State) (old new : Lane R) → IsSame b c → Comes accepted takes has_failed lets shuts heard source base db b old new → (new.fault ≡ None → ⊥) → Rests accepted takes has_failed lets shuts heard source base db c old new
+  pub rests_stopped : (db : Database) (b c : State) (old new : Lane R) → IsServiceReading b c → Comes accepted takes has_failed lets shuts heard source base db b old new → (new.fault ≡ None → ⊥) → Rests accepted takes has_failed lets shuts heard source base db c old new
   rests_stopped db b c old new same h stopped = record { comes = comes_later db b c old new same h; done = λ none. absurd (stopped none) }
 
   -- no row was left
-  pub rests_done : (db : Database) (b c : State) (old new : Lane R) (start : ℕ) (rows : List EventValue) → IsSame b c → Comes accepted takes has_failed lets shuts heard source base db b old new → base ≤ start → (start ≤ new.relay.mark) ⊎ (start ≤ base) → Honestly source base db c (λ all. IsWindow base all start rows) → length rows ≡ 0
+  pub rests_done : (db : Database) (b c : State) (old new : Lane R) (start : ℕ) (rows : List EventValue) → IsServiceReading b c → Comes accepted takes has_failed lets shuts heard source base db b old new → base ≤ start → (start ≤ new.relay.mark) ⊎ (start ≤ base) → Honestly source base db c (λ all. IsWindow base all start rows) → length rows ≡ 0
       → Rests accepted takes has_failed lets shuts heard source base db c old new
   rests_done db b c old new start rows same h low top w none = record {
     comes = comes_later db b c old new same h;
@@ -75,7 +75,7 @@ module _ {R : Type 0} (accepted : R → List EventValue) (takes : R → List Eve
       no_rows (x ∷ l) is = absurd (omega (arith, is))
 
 module _ {R G : Type 0} (accepted : R → List EventValue) (takes : R → List EventValue → R → Type 0) (has_failed : R → R → Type 0) (lets shuts heard : G → ℕ → ℕ → Type 0) (gate : G) (source : List ℕ) (base : ℕ) where
-  pub of_later : (db : Database) (b c : State) → IsSame b c → (old : Lane R) (slot : Slot R G) → IsOf accepted takes has_failed lets shuts heard gate source base db b old slot → IsOf accepted takes has_failed lets shuts heard gate source base db c old slot
+  pub of_later : (db : Database) (b c : State) → IsServiceReading b c → (old : Lane R) (slot : Slot R G) → IsOf accepted takes has_failed lets shuts heard gate source base db b old slot → IsOf accepted takes has_failed lets shuts heard gate source base db c old slot
   of_later db b c same old (Waiting lane) h = comes_later accepted takes has_failed (lets gate) (shuts gate) (heard gate) source base db b c old lane same h
   of_later db b c same old (Busy handle) h = (
     comes_later accepted takes has_failed (lets gate) (shuts gate) (heard gate) source base db b c old handle.promise.lane.value same h.0,
@@ -118,42 +118,42 @@ module _ {R G : Type 0} (accepted : R → List EventValue) (takes : R → List E
   landed db s old back Taken h k = absurd k
 
   -- each lane rests, once all have ended
-  pub each_rests : (db : Database) (b : State) (olds news : List (Lane R)) → Each (IsOf accepted takes has_failed lets shuts heard gate source base db b) olds (map Ended news) → Each (Rests accepted takes has_failed (lets gate) (shuts gate) (heard gate) source base db b) olds news
+  pub each_rests : (db : Database) (b : State) (olds news : List (Lane R)) → AllAtPlaces (IsOf accepted takes has_failed lets shuts heard gate source base db b) olds (map Ended news) → AllAtPlaces (Rests accepted takes has_failed (lets gate) (shuts gate) (heard gate) source base db b) olds news
   each_rests db b [] [] h = tt
   each_rests db b [] (y ∷ ys) h = absurd h
   each_rests db b (x ∷ xs) [] h = absurd h
   each_rests db b (x ∷ xs) (y ∷ ys) h = (h.0, each_rests db b xs ys h.1)
 
   -- each lane waits, before any has begun
-  pub each_waits : (db : Database) (s : State) (lanes : List (Lane R)) → Each (IsOf accepted takes has_failed lets shuts heard gate source base db s) lanes (map Waiting lanes)
+  pub each_waits : (db : Database) (s : State) (lanes : List (Lane R)) → AllAtPlaces (IsOf accepted takes has_failed lets shuts heard gate source base db s) lanes (map Waiting lanes)
   each_waits db s [] = tt
   each_waits db s (x ∷ xs) = (comes_none accepted takes has_failed (lets gate) (shuts gate) (heard gate) source base db s x, each_waits db s xs)
 
   -- from the lanes as they waited to the lanes as they ended
   pub fan_rests : (db : Database) (s t : State) (olds news : List (Lane R)) (first last : List (Slot R G)) → first ≡ map Waiting olds → map Ended news ≡ last
-      → (Each (IsOf accepted takes has_failed lets shuts heard gate source base db s) olds first → Each (IsOf accepted takes has_failed lets shuts heard gate source base db t) olds last) → Each (Rests accepted takes has_failed (lets gate) (shuts gate) (heard gate) source base db t) olds news
-  fan_rests db s t olds news first last p q goes = each_rests db t olds news (subst (λ l. Each (IsOf accepted takes has_failed lets shuts heard gate source base db t) olds l) (sym q) (goes (subst (λ l. Each (IsOf accepted takes has_failed lets shuts heard gate source base db s) olds l) (sym p) (each_waits db s olds))))
+      → (AllAtPlaces (IsOf accepted takes has_failed lets shuts heard gate source base db s) olds first → AllAtPlaces (IsOf accepted takes has_failed lets shuts heard gate source base db t) olds last) → AllAtPlaces (Rests accepted takes has_failed (lets gate) (shuts gate) (heard gate) source base db t) olds news
+  fan_rests db s t olds news first last p q goes = each_rests db t olds news (subst (λ l. AllAtPlaces (IsOf accepted takes has_failed lets shuts heard gate source base db t) olds l) (sym q) (goes (subst (λ l. AllAtPlaces (IsOf accepted takes has_failed lets shuts heard gate source base db s) olds l) (sym p) (each_waits db s olds))))
 
   -- no lane is lost
   pub fan_many : (db : Database) (s t : State) (olds : List (Lane R)) (first last : List (Slot R G)) → first ≡ map Waiting olds
-      → (Each (IsOf accepted takes has_failed lets shuts heard gate source base db s) olds first → Each (IsOf accepted takes has_failed lets shuts heard gate source base db t) olds last) → length last ≡ length olds
-  fan_many db s t olds first last p goes = each_length (IsOf accepted takes has_failed lets shuts heard gate source base db t) olds last (goes (subst (λ l. Each (IsOf accepted takes has_failed lets shuts heard gate source base db s) olds l) (sym p) (each_waits db s olds)))
+      → (AllAtPlaces (IsOf accepted takes has_failed lets shuts heard gate source base db s) olds first → AllAtPlaces (IsOf accepted takes has_failed lets shuts heard gate source base db t) olds last) → length last ≡ length olds
+  fan_many db s t olds first last p goes = each_length (IsOf accepted takes has_failed lets shuts heard gate source base db t) olds last (goes (subst (λ l. AllAtPlaces (IsOf accepted takes has_failed lets shuts heard gate source base db s) olds l) (sym p) (each_waits db s olds)))
 
 -- the same of another service that has this source and base
 pub turned : {R G : Type 0} (accepted : R → List EventValue) (takes : R → List EventValue → R → Type 0) (has_failed : R → R → Type 0) (lets shuts heard : G → ℕ → ℕ → Type 0) (gate : G) (source source' : List ℕ) (base base' : ℕ) (db : Database) (b c : State) (olds : List (Lane R)) (xs ys : List (Slot R G)) → source' ≡ source → base' ≡ base
-    → (Each (IsOf accepted takes has_failed lets shuts heard gate source' base' db b) olds xs → Each (IsOf accepted takes has_failed lets shuts heard gate source' base' db c) olds ys)
-    → Each (IsOf accepted takes has_failed lets shuts heard gate source base db b) olds xs → Each (IsOf accepted takes has_failed lets shuts heard gate source base db c) olds ys
+    → (AllAtPlaces (IsOf accepted takes has_failed lets shuts heard gate source' base' db b) olds xs → AllAtPlaces (IsOf accepted takes has_failed lets shuts heard gate source' base' db c) olds ys)
+    → AllAtPlaces (IsOf accepted takes has_failed lets shuts heard gate source base db b) olds xs → AllAtPlaces (IsOf accepted takes has_failed lets shuts heard gate source base db c) olds ys
 turned accepted takes has_failed lets shuts heard gate source source' base base' db b c olds xs ys p q goes h =
-    subst (λ s. Each (IsOf accepted takes has_failed lets shuts heard gate s base db c) olds ys) p (subst (λ n. Each (IsOf accepted takes has_failed lets shuts heard gate source' n db c) olds ys) q
-    (goes (subst (λ n. Each (IsOf accepted takes has_failed lets shuts heard gate source' n db b) olds xs) (sym q) (subst (λ s. Each (IsOf accepted takes has_failed lets shuts heard gate s base db b) olds xs) (sym p) h))))
+    subst (λ s. AllAtPlaces (IsOf accepted takes has_failed lets shuts heard gate s base db c) olds ys) p (subst (λ n. AllAtPlaces (IsOf accepted takes has_failed lets shuts heard gate source' n db c) olds ys) q
+    (goes (subst (λ n. AllAtPlaces (IsOf accepted takes has_failed lets shuts heard gate source' n db b) olds xs) (sym q) (subst (λ s. AllAtPlaces (IsOf accepted takes has_failed lets shuts heard gate s base db b) olds xs) (sym p) h))))
 
 -- one of the slots is another, and what holds of each before holds after
-pub each_turn : {A B : Type 0} (P Q : A → B → Type 0) → ((o : A) (x : B) → P o x → Q o x) → (olds : List A) (xs : List B) (i : ℕ) (d x y z : B) → i < length xs → x ≡ get_or xs i d → ((o : A) → P o x → Q o y) → Each P olds xs → Each Q olds (slice_set (slice_set xs i z) i y)
+pub each_turn : {A B : Type 0} (P Q : A → B → Type 0) → ((o : A) (x : B) → P o x → Q o x) → (olds : List A) (xs : List B) (i : ℕ) (d x y z : B) → i < length xs → x ≡ get_or xs i d → ((o : A) → P o x → Q o y) → AllAtPlaces P olds xs → AllAtPlaces Q olds (slice_set (slice_set xs i z) i y)
 each_turn P Q later olds [] i d x y z low at k h = absurd (omega (arith, low))
 each_turn P Q later [] (b ∷ xs) i d x y z low at k h = absurd h
 each_turn {A} {B} P Q later (a ∷ olds) (b ∷ xs) zero d x y z low at k h = (k a (subst (λ (v : B). P a v) (sym at) h.0), each_all olds xs h.1)
   where
-    each_all : (ls : List A) (bs : List B) → Each P ls bs → Each Q ls bs
+    each_all : (ls : List A) (bs : List B) → AllAtPlaces P ls bs → AllAtPlaces Q ls bs
     each_all [] [] h = tt
     each_all [] (b ∷ bs) h = absurd h
     each_all (a ∷ ls) [] h = absurd h

@@ -4,10 +4,10 @@ use Rattle.std.specs.Prelude.{◌≡◌, ◌⊎◌, ◌+◌, ℕ, List, Option, 
 use Rattle.sqlite.specs.Held.{Held}
 use Rattle.sqlite.specs.State.{State, HasCleanDisk}
 use Rattle.attributes.specs.Event.{EventValue}
-use Rattle.outbox.specs.Call.{IsSame, IsSettled, LeavesAsBefore}
+use Rattle.outbox.specs.Call.{IsServiceReading, IsSettled, LeavesAsBefore}
 use Rattle.outbox.specs.Shown.{Shown}
-use Rattle.relay.specs.Relay.{ForNextRows, HandsOn, HasRows, IsLast, Marked, Sends}
-use Rattle.relay.specs.Route.{AreIn, AreOf}
+use Rattle.relay.specs.Relay.{ForNextRows, HandsOn, HasRows, IsLast, RelayMark, Sends}
+use Rattle.relay.specs.Route.{AreIn, AreFromEither}
 use Rattle.relay.specs.declared.fault.RelayFault.{RelayFault}
 use Rattle.relay.specs.declared.fault.RelayFault.TheVariants.{OutOfMemory, RouteFailed, Store}
 use Rattle.relay.specs.declared.relay.Job.{Job}
@@ -18,7 +18,7 @@ module _ {S : Type 0} (state : Held S → State) where
       : Type 0 where
     pub kept : (is.source ≡ was.source) × (is.base ≡ was.base) × (is.last ≡ was.last)
     -- no fault of the disk is forgotten, and while it is honest the database is as it was
-    pub same : IsSame (state was.conn) (state is.conn)
+    pub same : IsServiceReading (state was.conn) (state is.conn)
     -- answered, the database is open, and a crash leaves what it shows
     pub stays_open : HasCleanDisk (state is.conn) → OnOk result (IsTrue (state is.conn).is_open)
     pub settled : HasCleanDisk (state is.conn) → OnOk result (IsSettled (state is.conn))
@@ -34,7 +34,7 @@ module _ {S : Type 0} (state : Held S → State) where
   -- rows were sent
   pub record Steps {R : Type 0} (accepted : R → List EventValue)
       (takes : R → List EventValue → R → Type 0) (has_failed : R → R → Type 0) (was is : Shown S)
-      (old new : Marked) (route back : R) (result : Result ℕ RelayFault) : Type 0 where
+      (old new : RelayMark) (route back : R) (result : Result ℕ RelayFault) : Type 0 where
     pub site : new.site ≡ old.site
     -- answered, the next rows are accepted, and the mark is the number of the last; the route was
     -- handed them once
@@ -43,14 +43,14 @@ module _ {S : Type 0} (state : Held S → State) where
     pub took : OnOk result (OfNextRows was is old.mark (HandsOn takes route back))
     -- refused too, nothing that was accepted is lost, and what is new is of the next rows
     pub kept : AreIn (accepted route) (accepted back)
-    pub new_rows : OfNextRows was is old.mark (AreOf (accepted back) (accepted route))
+    pub new_rows : OfNextRows was is old.mark (AreFromEither (accepted back) (accepted route))
     -- refused, the mark stays, and `RouteFailed` comes only of the route
     pub refused : OnErr result (new.mark ≡ old.mark)
     pub failed : result ≡ Err RouteFailed → has_failed route back
     pub fault : IfErr result (λ f. (f ≡ RouteFailed) ⊎ ((f ≡ OutOfMemory) ⊎ (f ≡ Store)))
 
   -- a relay made a job, or none
-  pub record MakesJob (was is : Shown S) (relay : Marked) (result : Result (Option Job) RelayFault)
+  pub record MakesJob (was is : Shown S) (relay : RelayMark) (result : Result (Option Job) RelayFault)
       : Type 0 where
     -- it is of this site, and begins behind the mark
     pub site : IfOk result (λ o. IfSome o (λ j.

@@ -3,8 +3,8 @@ use Rattle.std.specs.Prelude.{◌≡◌, ◌⊎◌, ◌<◌, ◌≤◌, ◌+◌,
 use Rattle.std.specs.List.{AllByRecursion}
 use Rattle.attributes.specs.Event.{EventValue}
 use Rattle.site.specs.Gate.{LetsThrough}
-use Rattle.relay.specs.Relay.{Marked, max_page}
-use Rattle.relay.specs.Route.{Has, AreIn, AreOf}
+use Rattle.relay.specs.Relay.{RelayMark, max_page}
+use Rattle.relay.specs.Route.{Has, AreIn, AreFromEither}
 use Rattle.relay.specs.declared.fault.RelayFault.{RelayFault}
 use Rattle.relay.specs.declared.fault.RelayFault.TheVariants.{OutOfMemory, RouteFailed, Stranger, Store, NoThread, GateShut}
 use Rattle.relay.specs.declared.fan.End.{End}
@@ -45,33 +45,33 @@ TakesAll {R} takes old (page ∷ pages) new =
 
 -- what a fault did to a route: one send that failed where it is said so, and else nothing; no
 -- outcome was of strangers
-abbrev pub HasCause : {R : Type 0} → (R → R → Type 0) → R → R → RelayFault → Type 0
-HasCause has_failed before route OutOfMemory = route ≡ before
-HasCause has_failed before route RouteFailed = has_failed before route
-HasCause has_failed before route Stranger = ⊥
-HasCause has_failed before route Store = route ≡ before
-HasCause has_failed before route NoThread = route ≡ before
-HasCause has_failed before route GateShut = route ≡ before
+abbrev pub HasCauseOfFault : {R : Type 0} → (R → R → Type 0) → R → R → RelayFault → Type 0
+HasCauseOfFault has_failed before route OutOfMemory = route ≡ before
+HasCauseOfFault has_failed before route RouteFailed = has_failed before route
+HasCauseOfFault has_failed before route Stranger = ⊥
+HasCauseOfFault has_failed before route Store = route ≡ before
+HasCauseOfFault has_failed before route NoThread = route ≡ before
+HasCauseOfFault has_failed before route GateShut = route ≡ before
 
 -- what an end did to a route
-abbrev pub Closes : {R : Type 0} → (R → R → Type 0) → R → R → End → Type 0
-Closes has_failed before route Done = route ≡ before
-Closes has_failed before route (Failed f) = HasCause has_failed before route f
+abbrev pub EndsAtRoute : {R : Type 0} → (R → R → Type 0) → R → R → End → Type 0
+EndsAtRoute has_failed before route Done = route ≡ before
+EndsAtRoute has_failed before route (Failed f) = HasCauseOfFault has_failed before route f
 
 -- the calls of a worker that ended so: one for each page that was accepted, and the one that failed
-abbrev pub calls_of : End → ℕ → ℕ
-calls_of Done pages = pages
-calls_of (Failed OutOfMemory) pages = pages
-calls_of (Failed RouteFailed) pages = pages + 1
-calls_of (Failed Stranger) pages = pages
-calls_of (Failed Store) pages = pages
-calls_of (Failed NoThread) pages = pages
-calls_of (Failed GateShut) pages = pages
+abbrev pub calls_until : End → ℕ → ℕ
+calls_until Done pages = pages
+calls_until (Failed OutOfMemory) pages = pages
+calls_until (Failed RouteFailed) pages = pages + 1
+calls_until (Failed Stranger) pages = pages
+calls_until (Failed Store) pages = pages
+calls_until (Failed NoThread) pages = pages
+calls_until (Failed GateShut) pages = pages
 
 -- the gate let a worker make just its calls, counted from 1, and was told of each; it was shut
 -- before the next one where the worker ended at a shut gate
-pub record IsGated (lets shuts heard : ℕ → ℕ → Type 0) (worker pages : ℕ) (end : End) : Type 0 where
-  pub through : LetsThrough lets heard worker 0 (calls_of end pages)
+pub record IsGatedEnd (lets shuts heard : ℕ → ℕ → Type 0) (worker pages : ℕ) (end : End) : Type 0 where
+  pub through : LetsThrough lets heard worker 0 (calls_until end pages)
   pub shut : end ≡ Failed GateShut → shuts worker (pages + 1)
 
 -- a route was handed these pages and then nothing more, but for one that failed where the end is
@@ -81,16 +81,16 @@ pub record Hands {R : Type 0} (takes : R → List EventValue → R → Type 0)
     (route back : R) (end : End) (pages : List (List EventValue)) : Type 0 where
   pub before : R
   pub taken : TakesAll takes route pages before
-  pub closed : Closes has_failed before back end
+  pub closed : EndsAtRoute has_failed before back end
   pub sized : AllByRecursion IsPage pages
-  pub gated : IsGated lets shuts heard worker (length pages) end
+  pub gated : IsGatedEnd lets shuts heard worker (length pages) end
 
 -- a relay and its route at this place, before and after, whatever the disk did: the mark doesn't
 -- fall, nothing that was accepted is lost, and the route was handed pages, each once. The worker's
 -- number is the place
-pub record Leaves {R : Type 0} (accepted : R → List EventValue)
+pub record LeavesLane {R : Type 0} (accepted : R → List EventValue)
     (takes : R → List EventValue → R → Type 0) (has_failed : R → R → Type 0)
-    (lets shuts heard : ℕ → ℕ → Type 0) (place : ℕ) (old new : Marked) (route back : R) (end : End)
+    (lets shuts heard : ℕ → ℕ → Type 0) (place : ℕ) (old new : RelayMark) (route back : R) (end : End)
     : Type 0 where
   pub site : new.site ≡ old.site
   pub forward : old.mark ≤ new.mark
@@ -105,9 +105,9 @@ pub record Leaves {R : Type 0} (accepted : R → List EventValue)
 pub record Delivers {R : Type 0} (accepted : R → List EventValue)
     (takes : R → List EventValue → R → Type 0) (has_failed : R → R → Type 0)
     (lets shuts heard : ℕ → ℕ → Type 0) (base : ℕ) (rows : List EventValue) (place : ℕ)
-    (old new : Marked) (route back : R) (end : End) : Type 0 where
+    (old new : RelayMark) (route back : R) (end : End) : Type 0 where
   pub sent : AreSent base rows old.mark new.mark (accepted back)
-  pub new_rows : AreOf (accepted back) (accepted route) rows
+  pub new_rows : AreFromEither (accepted back) (accepted route) rows
   pub handed : (pages : List (List EventValue))
       × (Hands takes has_failed lets shuts heard place route back end pages
       × (joined pages ≡ rows_between base rows old.mark new.mark))
@@ -115,10 +115,10 @@ pub record Delivers {R : Type 0} (accepted : R → List EventValue)
   pub done : end ≡ Done → IsAtEnd base rows new.mark
 
 -- this holds at each place: of a relay before and after, its route before and after, and its end
-abbrev pub AtEach : {R : Type 0} → List Marked → List Marked → List R → List R → List End
-    → (ℕ → Marked → Marked → R → R → End → Type 0) → Type 0
+abbrev pub AtEach : {R : Type 0} → List RelayMark → List RelayMark → List R → List R → List End
+    → (ℕ → RelayMark → RelayMark → R → R → End → Type 0) → Type 0
 AtEach {R} olds news routes backs ends Holds =
-    (i : ℕ) (old new : Marked) (route back : R) (end : End)
+    (i : ℕ) (old new : RelayMark) (route back : R) (end : End)
     → slice_get olds i ≡ Some old → slice_get news i ≡ Some new
     → slice_get routes i ≡ Some route → slice_get backs i ≡ Some back
     → slice_get ends i ≡ Some end → Holds i old new route back end

@@ -9,7 +9,7 @@ use Rattle.attributes.specs.Sequence.{number_of}
 use Rattle.outbox.specs.Order.{Accepted}
 use Rattle.outbox.specs.Row.{rows_after}
 use Rattle.outbox.specs.Service.{IsService}
-use Rattle.relay.specs.Route.{AreIn, Kept}
+use Rattle.relay.specs.Route.{AreIn, KeptRoute}
 use Rattle.relay.specs.declared.relay.Job.{Job}
 
 -- the number of the last event, or this one where there is none
@@ -39,14 +39,14 @@ abbrev pub HasRows : Option Job → List EventValue → Type 0
 HasRows job rows = MatchOption job (rows ≡ []) (λ j. (j.rows ≢ []) × (j.rows ≡ rows))
 
 -- the site and the mark of a relay
-pub record Marked : Type 0 where
+pub record RelayMark : Type 0 where
   pub site : ℕ
   pub mark : ℕ
 
-abbrev pub marked_code : Coded Marked
-marked_code = code_by (ℕ × ℕ) (coded× coded_ℕ coded_ℕ) (λ m. (m.site, m.mark))
+abbrev pub mark_code : Coded RelayMark
+mark_code = code_by (ℕ × ℕ) (coded× coded_ℕ coded_ℕ) (λ m. (m.site, m.mark))
     (λ p. record { site = p.0; mark = p.1 }) (λ _. refl)
 
-abbrev pub kept_code : Coded Kept
-kept_code = code_by (List EventValue × ℕ) (coded× (coded_list event_code) coded_ℕ)
+abbrev pub kept_route_code : Coded KeptRoute
+kept_route_code = code_by (List EventValue × ℕ) (coded× (coded_list event_code) coded_ℕ)
     (λ k. (k.events, k.failures)) (λ p. record { events = p.0; failures = p.1 }) (λ _. refl)

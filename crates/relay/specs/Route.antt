@@ -12,11 +12,11 @@ abbrev pub AreIn : List EventValue → List EventValue → Type 0
 AreIn events all = (e : EventValue) → Has events e → Has all e
 
 -- each of these events is one of those, or of these others
-abbrev pub AreOf : List EventValue → List EventValue → List EventValue → Type 0
-AreOf events all others = (e : EventValue) → Has events e → Has all e ⊎ Has others e
+abbrev pub AreFromEither : List EventValue → List EventValue → List EventValue → Type 0
+AreFromEither events all others = (e : EventValue) → Has events e → Has all e ⊎ Has others e
 
 -- what a `MemoryRoute` is: the events in the order of their arrival, and a count of failures
-pub record Kept : Type 0 where
+pub record KeptRoute : Type 0 where
   pub events : List EventValue
   pub failures : ℕ
 

@@ -12,11 +12,12 @@ ghost use Rattle.sqlite.specs.Held.{state};
 ghost use Rattle.outbox.specs.Order.{Accepted};
 ghost use Rattle.outbox.specs.Row.{rows_of};
 ghost use Rattle.outbox.specs.Service.{IsService};
-ghost use Rattle.outbox.specs.Call.{IsSame};
-ghost use Rattle.relay.specs.Fan.{AtEach, Leaves, Delivers};
-ghost use Rattle.relay.specs.steps.Lane.{ArePlaced, end_of};
+ghost use Rattle.outbox.specs.Call.{IsServiceReading};
+ghost use Rattle.relay.specs.Fan.{AtEach, LeavesLane, Delivers};
+ghost use Rattle.relay.specs.steps.Lane.{ArePlaced, end_of_lane};
 ghost use Rattle.relay.specs.steps.Slot.{IsEnded};
 ghost use Rattle.relay.specs.declared.fan.slot.Slot.TheVariants.{Ended, Waiting};
+ghost use Rattle.outbox.specs.Shown.{IsSameService};
 
 use crate::fan::desk::run_slots;
 use crate::fan::lane::Lane;
@@ -207,7 +208,7 @@ fn lanes_back<R: Route + Drop, G: Gate>(slots: Vec<Slot<R, G>>, room: Vec<Lane<R
 
 /// How a lane ended.
 fn end_at<R>(lane: &Lane<R>) -> End
-    ensures { result ≡ end_of lane.now }
+    ensures { result ≡ end_of_lane lane.now }
 {
     match lane.fault {
         Some(fault) => End::Failed(fault),
@@ -227,7 +228,7 @@ fn settle<R: Drop>(
         × (length lanes.items ≤ vec_capacity routes) × (length lanes.items ≤ vec_capacity ends) }
     ensures relays { relays.new.items ≡ map (λ l. l.relay) lanes.items }
     ensures routes { result.routes.items ≡ map (λ l. l.route) lanes.items }
-    ensures ends { result.ends.items ≡ map end_of lanes.items }
+    ensures ends { result.ends.items ≡ map end_of_lane lanes.items }
 {
     let mut routes = routes;
     let mut ends = ends;
@@ -270,9 +271,8 @@ pub fn fan_out<H: Threads + Wait + Sync, S: Alter, R: Route + Drop + Send, G: Ga
 ) -> FanOut<R>
     requires few { (1 ≤ length routes.items) × (length routes.items ≤ 16) }
     requires paired { length relays.old.items ≡ length routes.items }
-    ensures kept_service { (service.new.source ≡ service.old.source)
-        × (service.new.base ≡ service.old.base) × (service.new.last ≡ service.old.last) }
-    ensures service { IsSame (state S.Store service.old.conn) (state S.Store service.new.conn) }
+    ensures kept_service { IsSameService service.old service.new }
+    ensures service { IsServiceReading (state S.Store service.old.conn) (state S.Store service.new.conn) }
     ensures back { (length relays.new.items ≡ length relays.old.items)
         × (length result.routes.items ≡ length routes.items) }
     ensures ends { (result.ends.items ≡ [])
@@ -280,7 +280,7 @@ pub fn fan_out<H: Threads + Wait + Sync, S: Alter, R: Route + Drop + Send, G: Ga
     ensures not_begun { result.ends.items ≡ []
         → (result.routes.items ≡ routes.items) × (relays.new.items ≡ relays.old.items) }
     ensures each { AtEach relays.old.items relays.new.items routes.items result.routes.items
-        result.ends.items (Leaves R.accepted R.takes R.has_failed (G.lets gate.now)
+        result.ends.items (LeavesLane R.accepted R.takes R.has_failed (G.lets gate.now)
         (G.shuts gate.now) (G.heard gate.now)) }
     ensures sent { HasCleanDisk (state S.Store service.new.conn) → (commands : List Accepted)
         → IsService (state S.Store service.old.conn).now service.old.source service.old.base

@@ -1,7 +1,7 @@
 //! A route into memory.
 
 ghost use Rattle.std.specs.Prelude.{◌≡◌, ◌++◌, ◌∷◌, [], OnOk, OnErr};
-ghost use Rattle.relay.specs.Route.{AreIn, AreOf, CountRises};
+ghost use Rattle.relay.specs.Route.{AreIn, AreFromEither, CountRises};
 
 use crate::route::{Route, RouteFailed};
 use attributes::{Batch, Sequenced};
@@ -17,12 +17,12 @@ pub struct MemoryRoute {
 }
 
 impl Model for MemoryRoute {
-    ghost use Rattle.relay.specs.Route.{Kept};
-    ghost use Rattle.relay.specs.Relay.{kept_code};
+    ghost use Rattle.relay.specs.Route.{KeptRoute};
+    ghost use Rattle.relay.specs.Relay.{kept_route_code};
 
-    ghost Value = { Kept };
+    ghost Value = { KeptRoute };
 
-    ghost coded = { kept_code };
+    ghost coded = { kept_route_code };
 
     ghost view = { λ r. record { events = r.events; failures = r.failures } };
 }
@@ -42,7 +42,7 @@ fn append_all(events: &mut Batch, batch: &Batch) -> Result<(), AllocError>
     ensures appended { OnOk result (events.new ≡ events.old ++ batch.now) }
     ensures accepted { OnOk result (AreIn batch.now events.new) }
     ensures kept { AreIn events.old events.new }
-    ensures new { AreOf events.new events.old batch.now }
+    ensures new { AreFromEither events.new events.old batch.now }
 {
     for i in 0..batch.len() {
         append(events, batch.at(i))?;

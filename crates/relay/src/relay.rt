@@ -2,7 +2,7 @@
 
 ghost use Rattle.std.specs.Prelude.{◌≡◌, ◌≢◌, ◌↔◌, ◌≤◌, ◌+◌, ◌⊎◌, Err, OnOk, OnErr, IfErr, IsTrue, false};
 ghost use Rattle.sqlite.specs.Held.{state};
-ghost use Rattle.relay.specs.Route.{AreIn, AreOf};
+ghost use Rattle.relay.specs.Route.{AreIn, AreFromEither};
 ghost use Rattle.relay.specs.Relay.{IsLast};
 ghost use Rattle.relay.specs.Call.{MakesJob, ReadsService, Steps};
 ghost use Rattle.relay.specs.declared.fault.RelayFault.TheVariants.{RouteFailed, Stranger};
@@ -24,11 +24,11 @@ pub struct Relay {
 }
 
 impl Model for Relay {
-    ghost use Rattle.relay.specs.Relay.{Marked, marked_code};
+    ghost use Rattle.relay.specs.Relay.{RelayMark, mark_code};
 
-    ghost Value = { Marked };
+    ghost Value = { RelayMark };
 
-    ghost coded = { marked_code };
+    ghost coded = { mark_code };
 
     ghost view = { λ r. record { site = r.site; mark = r.mark } };
 
@@ -72,7 +72,7 @@ pub fn carry<R: Route>(job: Job, route: &mut R) -> Outcome
     ensures took { IsTrue result.sent → R.takes route.old job.rows route.new }
     ensures failed { result.sent ≡ false → R.has_failed route.old route.new }
     ensures kept { AreIn (R.accepted route.old) (R.accepted route.new) }
-    ensures new { AreOf (R.accepted route.new) (R.accepted route.old) job.rows }
+    ensures new { AreFromEither (R.accepted route.new) (R.accepted route.old) job.rows }
 {
     let sent = match route.send(&job.rows) {
         Ok(()) => true,

@@ -2,7 +2,7 @@
 
 ghost use Rattle.std.specs.Prelude.{List, OnOk, OnErr};
 ghost use Rattle.attributes.specs.Event.{EventValue};
-ghost use Rattle.relay.specs.Route.{AreIn, AreOf};
+ghost use Rattle.relay.specs.Route.{AreIn, AreFromEither};
 
 use attributes::Batch;
 
@@ -27,5 +27,5 @@ pub trait Route {
         ensures took { OnOk result (takes self.old batch.now self.new) }
         ensures failed { OnErr result (has_failed self.old self.new) }
         ensures kept { AreIn (accepted self.old) (accepted self.new) }
-        ensures new { AreOf (accepted self.new) (accepted self.old) batch.now };
+        ensures new { AreFromEither (accepted self.new) (accepted self.old) batch.now };
 }

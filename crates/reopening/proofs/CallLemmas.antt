@@ -56,12 +56,12 @@ none_of base [] is = refl
 none_of base (c ∷ cs) is = absurd (let bad : base ≡ base + suc (length cs) = is in omega (arith, bad))
 
 module _ {S : Type 0} (state : Held S → State) (first last : Held S) (one two : Shown S) (given : List ℕ) (start : ℕ) (a : Accepted) where
-  pub gave_command : (mid : Held S) → mid ≡ one.conn → outbox.Opens given start (state first) one (state one.conn) → IsLive (state mid)
-      → outbox.Opens given start (state mid) two (state two.conn) → (HasCleanDisk (state last) → HasCleanDisk (state two.conn))
+  pub gave_command : (mid : Held S) → mid ≡ one.conn → outbox.OpensService given start (state first) one (state one.conn) → IsLive (state mid)
+      → outbox.OpensService given start (state mid) two (state two.conn) → (HasCleanDisk (state last) → HasCleanDisk (state two.conn))
       → CommandsUntil (state two.conn) two.source two.base a (state last) → HasCleanDisk (state last) → GaveCommand state first given start a last
   gave_command mid back opened alive again before until clean =
       let live : IsLive (state one.conn) = subst (λ (h : Held S). IsLive (state h)) back alive in
-      let reopened : outbox.Opens given start (state one.conn) two (state two.conn) = subst (λ (h : Held S). outbox.Opens given start (state h) two (state two.conn)) back again in
+      let reopened : outbox.OpensService given start (state one.conn) two (state two.conn) = subst (λ (h : Held S). outbox.OpensService given start (state h) two (state two.conn)) back again in
       let clean2 : HasCleanDisk (state two.conn) = before clean in
       let clean1 : HasCleanDisk (state one.conn) = (let c = reopened.clean in omega (arith, c, clean2)) in
       let stands = opened.stands clean1 in

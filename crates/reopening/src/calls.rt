@@ -1,18 +1,17 @@
 //! A call, a crash and an opening: that what each of the functions of this crate asks for is had of
 //! calls, from a database to what is found in its files.
 
-ghost use Rattle.std.specs.Prelude.{◌≡◌, ◌⊎◌, ◌≤◌, ◌∷◌, ◌++◌, [], ℕ, List, length, true, IfOk};
+ghost use Rattle.std.specs.Prelude.{◌≡◌, ◌⊎◌, ◌≤◌, ◌∷◌, ◌++◌, [], ℕ, List, IfOk};
 ghost use Rattle.sqlite.specs.Files.{file_state};
 ghost use Rattle.sqlite.specs.Held.{state};
 ghost use Rattle.sqlite.specs.State.{HasCleanDisk};
-ghost use Rattle.attributes.specs.Character.{is_filled};
 ghost use Rattle.attributes.specs.Event.{EventValue};
 ghost use Rattle.attributes.specs.Sequence.{max_sequence};
 ghost use Rattle.inbox.specs.KeyOrder.{key_cmp};
 ghost use Rattle.inbox.specs.Ordered.{append_new};
-ghost use Rattle.outbox.specs.Order.{Accepted};
+ghost use Rattle.outbox.specs.Order.{Accepted, IsOrder, IsShortTime};
 ghost use Rattle.outbox.specs.Service.{IsService};
-ghost use Rattle.outbox.specs.Shown.{max_source};
+ghost use Rattle.outbox.specs.Shown.{IsSource};
 ghost use Rattle.outbox.specs.declared.status.Status.TheVariants.{Placed};
 ghost use Rattle.reopening.specs.Lists.{GaveEvents, WereHeld};
 ghost use Rattle.reopening.specs.Services.{GaveCommand, WasService};
@@ -85,10 +84,10 @@ fn place_order<S: Alter + Drop>(
     order: u64,
     at: &Moment,
 ) -> Result<Connection<S>, outbox::NotMade<S>>
-    requires source { (is_filled source.now ≡ true) × (length source.now ≤ max_source) }
+    requires source { IsSource source.now }
     requires base { base ≤ max_sequence }
-    requires order { (1 ≤ order) × (order ≤ max_sequence) }
-    requires short { length at.now ≤ 64 }
+    requires order { IsOrder order }
+    requires short { IsShortTime at.now }
     ensures { IfOk result (λ last. HasCleanDisk (state S.Store last)
         → GaveCommand (λ c. state S.Store c) conn source.now base
         (record { status = Placed; order = order; at = at.now }) last) }
@@ -122,10 +121,10 @@ pub fn place_and_reopen<D: Crash + Drop>(
     at: &Moment,
     options: Options,
 ) -> Result<Service<FileStore<D>>, NoService<D>>
-    requires source { (is_filled source.now ≡ true) × (length source.now ≤ max_source) }
+    requires source { IsSource source.now }
     requires base { base ≤ max_sequence }
-    requires order { (1 ≤ order) × (order ≤ max_sequence) }
-    requires short { length at.now ≤ 64 }
+    requires order { IsOrder order }
+    requires short { IsShortTime at.now }
     ensures { IfOk result (λ s. HasCleanDisk (file_state s.conn) → (own : List ℕ) × (first : ℕ)
         × (commands : List Accepted)
         × WasService (file_state conn).now source.now base own first commands

@@ -1,6 +1,7 @@
 //! Events of words.
 
 use crate::shelf::Shelf;
+use crate::words::number_of;
 use attributes::{Batch, Sequenced};
 use event_json::read_events;
 use std::alloc::Global;
@@ -70,7 +71,7 @@ pub fn event(alloc: Global, events: &mut Shelf<Sequenced>, words: &[&str]) -> bo
     let [name, id, number, kind, more @ ..] = words else {
         return false;
     };
-    let Ok(number) = number.parse::<u64>() else {
+    let Some(number) = number_of(number) else {
         return false;
     };
     match made(alloc, id, number, kind, more) {

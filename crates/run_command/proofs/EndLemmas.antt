@@ -18,7 +18,7 @@ use Rattle.feeds.specs.declared.report.Report.{Report}
 use Rattle.feeds.specs.declared.serving.ServeFault.{ServeFault}
 use Rattle.feeds.specs.declared.serving.ServeFault.TheVariants as serve
 use Rattle.feeds.specs.declared.serving.Served.{Served}
-use Rattle.inbox_table.specs.Calls.{IsSettled, Kept}
+use Rattle.inbox_table.specs.Calls.{IsSettled, KeptTable}
 use Rattle.inbox_table.specs.Rows.{IsInbox}
 use Rattle.inbox_table.specs.declared.fault.TableFault.{TableFault}
 use Rattle.inbox_table.specs.declared.fault.TableFault.TheVariants as table
@@ -28,7 +28,7 @@ use Rattle.keeper.specs.declared.fault.KeepFault.{KeepFault}
 use Rattle.keeper.specs.declared.fault.KeepFault.TheVariants as keep
 use Rattle.run_command.specs.Ending.{KeepsRest, workers_of}
 use Rattle.run_command.specs.Fault.{IsRunFault, of_end, of_keep, of_serve}
-use Rattle.run_command.specs.Outcome.{AreReports, HasFrom, HasRun, IsOutcome, MayRun, RunsTo, Tells, fault_of, keeping_fault, reports_in}
+use Rattle.run_command.specs.Outcome.{AreReports, HasFrom, HasRun, IsOutcome, MayRun, RunsTo, TellsRun, fault_of_run, keeping_fault, reports_if_served}
 use Rattle.run_command.specs.Peer.{ArePulled}
 use Rattle.run_command.specs.Run.{IsFeedFault, IsRun, IsRunText, SaysRun}
 use Rattle.run_command.specs.Shared.{IsClosed}
@@ -90,13 +90,13 @@ first_is place n [] why is = absurd (cc)
 first_is place n (r ∷ rs) why is = one_of (of_end place n r.ended) (first_fault (place + 1) (n - 1) rs) why (end_fault place n r.ended) (first_is (place + 1) (n - 1) rs why) is
 
 -- what is blamed where there is no text
-blames_kept : (n : ℕ) (bs : List (List ℕ)) (rs : List Report) (A : List EventValue) (stopped : Option KeepFault) (why : RunFault) → Tells n rs A (keeping_fault stopped) (Err why) → IsFeedFault bs why × IsRunFault why
+blames_kept : (n : ℕ) (bs : List (List ℕ)) (rs : List Report) (A : List EventValue) (stopped : Option KeepFault) (why : RunFault) → TellsRun n rs A (keeping_fault stopped) (Err why) → IsFeedFault bs why × IsRunFault why
 blames_kept n bs rs A (Some fault) why tells =
     let e : of_keep fault ≡ why = cc in let k = kept_blames bs fault in (subst (IsFeedFault bs) e k.0, subst IsRunFault e k.1)
 blames_kept n bs rs A None why tells = (subst (IsFeedFault bs) (sym tells) tt, subst IsRunFault (sym tells) tt)
 
 blames_first : (o : Option RunFault) (n : ℕ) (bs : List (List ℕ)) (rs : List Report) (A B : List EventValue) (stopped : Option KeepFault) (why : RunFault) → n ≡ length bs → AreFed B bs rs → first_fault 0 n rs ≡ o
-    → Tells n rs A (option_or o (keeping_fault stopped)) (Err why) → IsFeedFault bs why × IsRunFault why
+    → TellsRun n rs A (option_or o (keeping_fault stopped)) (Err why) → IsFeedFault bs why × IsRunFault why
 blames_first None n bs rs A B stopped why is fed first tells = blames_kept n bs rs A stopped why tells
 blames_first (Some w) n bs rs A B stopped why is fed first tells =
     let e : w ≡ why = cc in
@@ -104,7 +104,7 @@ blames_first (Some w) n bs rs A B stopped why is fed first tells =
     (feed_blames B bs rs why fed (subst (λ k. first_fault 0 k rs ≡ Some why) is at), first_is 0 n rs why at)
 
 pub blames : (served : Result Served ServeFault) (n : ℕ) (bs : List (List ℕ)) (ps : List (List EventValue)) (A held more : List EventValue) (stopped : Option KeepFault) (why : RunFault) → n ≡ length bs
-    → IfOk served (λ s. AreReports held more bs ps s.reports.items) → Tells n (reports_in (workers_of served)) A (fault_of n (workers_of served) stopped) (Err why) → IsFeedFault bs why × IsRunFault why
+    → IfOk served (λ s. AreReports held more bs ps s.reports.items) → TellsRun n (reports_if_served (workers_of served)) A (fault_of_run n (workers_of served) stopped) (Err why) → IsFeedFault bs why × IsRunFault why
 blames (Ok s) n bs ps A held more stopped why is reports tells =
     blames_first (first_fault 0 n s.reports.items) n bs s.reports.items A (held ++ more) stopped why is (are_fed held more bs ps s.reports.items reports) refl tells
 blames (Err fault) n bs ps A held more stopped why is reports tells =
@@ -123,7 +123,7 @@ all_done place n [] is = tt
 all_done place n (r ∷ rs) is = let none = no_first (of_end place n r.ended) (first_fault (place + 1) (n - 1) rs) is in (end_done place n r.ended none.0, all_done (place + 1) (n - 1) rs none.1)
 
 pub either_blames : (served : Result Served ServeFault) (n : ℕ) (bs : List (List ℕ)) (ps : List (List EventValue)) (A held more : List EventValue) (stopped : Option KeepFault) (outcome : Result (List ℕ) RunFault) → n ≡ length bs
-    → IfOk served (λ s. AreReports held more bs ps s.reports.items) → Tells n (reports_in (workers_of served)) A (fault_of n (workers_of served) stopped) outcome
+    → IfOk served (λ s. AreReports held more bs ps s.reports.items) → TellsRun n (reports_if_served (workers_of served)) A (fault_of_run n (workers_of served) stopped) outcome
     → IfErr outcome (λ why. IsFeedFault bs why × IsRunFault why)
 either_blames served n bs ps A held more stopped (Ok text) is reports tells = tt
 either_blames served n bs ps A held more stopped (Err why) is reports tells = blames served n bs ps A held more stopped why is reports tells
@@ -135,7 +135,7 @@ pub record Finished (bs : List (List ℕ)) (ps : List (List EventValue)) (held m
   pub ok : IsOk served
   pub unstopped : stopped ≡ None
 
-no_fault : (n : ℕ) (rs : List Report) (A : List EventValue) (o : Option RunFault) (text : List ℕ) → Tells n rs A o (Ok text) → (o ≡ None) × IsRunText (read_in (take n rs)) (refused_in (take n rs)) A text
+no_fault : (n : ℕ) (rs : List Report) (A : List EventValue) (o : Option RunFault) (text : List ℕ) → TellsRun n rs A o (Ok text) → (o ≡ None) × IsRunText (read_in (take n rs)) (refused_in (take n rs)) A text
 no_fault n rs A None text tells = (refl, tells)
 no_fault n rs A (Some fault) text tells = absurd (cc)
 
@@ -144,7 +144,7 @@ not_stopped None h = refl
 not_stopped (Some fault) h = absurd (cc)
 
 pub finished : (served : Result Served ServeFault) (n : ℕ) (bs : List (List ℕ)) (ps : List (List EventValue)) (A held more : List EventValue) (stopped : Option KeepFault) (text : List ℕ) → n ≡ length bs → A ≡ held ++ more
-    → IfOk served (λ s. AreReports held more bs ps s.reports.items) → Tells n (reports_in (workers_of served)) A (fault_of n (workers_of served) stopped) (Ok text)
+    → IfOk served (λ s. AreReports held more bs ps s.reports.items) → TellsRun n (reports_if_served (workers_of served)) A (fault_of_run n (workers_of served) stopped) (Ok text)
     → Finished bs ps held more A served stopped text
 finished (Ok s) n bs ps A held more stopped text is grew reports tells =
     let rs : List Report = s.reports.items in
@@ -160,7 +160,7 @@ finished (Err fault) n bs ps A held more stopped text is grew reports tells = ab
 
 -- so those of a run with a text were
 done_through : (lets shuts heard : ℕ → ℕ → Type 0) (bs : List (List ℕ)) (ps : List (List EventValue)) (asks : List (List Query)) (served : Result Served ServeFault) (n : ℕ) (A : List EventValue) (stopped : Option KeepFault) (text : List ℕ)
-    → IfOk served (ServesThrough lets shuts heard bs ps asks) → Tells n (reports_in (workers_of served)) A (fault_of n (workers_of served) stopped) (Ok text) → DoneThrough lets shuts heard bs ps asks
+    → IfOk served (ServesThrough lets shuts heard bs ps asks) → TellsRun n (reports_if_served (workers_of served)) A (fault_of_run n (workers_of served) stopped) (Ok text) → DoneThrough lets shuts heard bs ps asks
 done_through lets shuts heard bs ps asks (Ok s) n A stopped text through tells =
     let q = no_fault n s.reports.items A (option_or (first_fault 0 n s.reports.items) (keeping_fault stopped)) text tells in
     let none = no_first (first_fault 0 n s.reports.items) (keeping_fault stopped) q.0 in
@@ -168,7 +168,7 @@ done_through lets shuts heard bs ps asks (Ok s) n A stopped text through tells =
 done_through lets shuts heard bs ps asks (Err fault) n A stopped text through tells = absurd (cc)
 
 pub gated_run : (lets shuts heard : ℕ → ℕ → Type 0) (bs : List (List ℕ)) (ps : List (List EventValue)) (asks : List (List Query)) (served : Result Served ServeFault) (n : ℕ) (A : List EventValue) (stopped : Option KeepFault) (outcome : Result (List ℕ) RunFault)
-    → IfOk served (ServesThrough lets shuts heard bs ps asks) → Tells n (reports_in (workers_of served)) A (fault_of n (workers_of served) stopped) outcome → OnOk outcome (DoneThrough lets shuts heard bs ps asks)
+    → IfOk served (ServesThrough lets shuts heard bs ps asks) → TellsRun n (reports_if_served (workers_of served)) A (fault_of_run n (workers_of served) stopped) outcome → OnOk outcome (DoneThrough lets shuts heard bs ps asks)
 gated_run lets shuts heard bs ps asks served n A stopped (Ok text) through tells = done_through lets shuts heard bs ps asks served n A stopped text through tells
 gated_run lets shuts heard bs ps asks served n A stopped (Err why) through tells = tt
 
@@ -193,9 +193,9 @@ all_first s rows A h = record {
   table = subst (λ (z : List EventValue). IsInbox s.now z) (sym (ap (λ k. take k A) h.count ∙ take-length A)) h.table;
 }
 
-module _ {S : Type 0} (state : Held S → State) (bs : List (List ℕ)) (ps : List (List EventValue)) (held A : List EventValue) (k0 k l : Kept S) (served : Result Served ServeFault) (before stopped : Option KeepFault) (n : ℕ) (outcome : Result (List ℕ) RunFault)
+module _ {S : Type 0} (state : Held S → State) (bs : List (List ℕ)) (ps : List (List EventValue)) (held A : List EventValue) (k0 k l : KeptTable S) (served : Result Served ServeFault) (before stopped : Option KeepFault) (n : ℕ) (outcome : Result (List ℕ) RunFault)
     (closed : IsClosed state k0 held bs ps k A served before) (rest : KeepsRest state k l A served before stopped) (count : HasCleanDisk (state k0.conn) → k0.rows ≡ length held) (is : n ≡ length bs)
-    (tells : Tells n (reports_in (workers_of served)) A (fault_of n (workers_of served) stopped) outcome) where
+    (tells : TellsRun n (reports_if_served (workers_of served)) A (fault_of_run n (workers_of served) stopped) outcome) where
   pub was_clean : HasCleanDisk (state l.conn) → HasCleanDisk (state k0.conn)
   was_clean clean = closed.grows.was_clean (rest.grows.was_clean clean)
 
@@ -205,12 +205,12 @@ module _ {S : Type 0} (state : Held S → State) (bs : List (List ℕ)) (ps : Li
     where
       go : (b : Option KeepFault) → before ≡ b → Grows (state k0.conn) (state l.conn)
       go None e = grows_on (state k0.conn) (state k.conn) (state l.conn) closed.grows rest.grows (λ clean is_open. closed.stays_open clean e is_open)
-      go (Some fault) e = subst (λ (z : Kept S). Grows (state k0.conn) (state z.conn)) (sym (rest.idle (subst (λ (z : Option KeepFault). IsSome z) (sym e) refl))) closed.grows
+      go (Some fault) e = subst (λ (z : KeptTable S). Grows (state k0.conn) (state z.conn)) (sym (rest.idle (subst (λ (z : Option KeepFault). IsSome z) (sym e) refl))) closed.grows
 
   pulls : IfOk outcome (λ _. ArePulled held closed.more ps)
   pulls = go outcome tells
     where
-      go : (o : Result (List ℕ) RunFault) → Tells n (reports_in (workers_of served)) A (fault_of n (workers_of served) stopped) o → IfOk o (λ _. ArePulled held closed.more ps)
+      go : (o : Result (List ℕ) RunFault) → TellsRun n (reports_if_served (workers_of served)) A (fault_of_run n (workers_of served) stopped) o → IfOk o (λ _. ArePulled held closed.more ps)
       go (Ok text) t = (finished served n bs ps A held closed.more stopped text is closed.grew closed.reports t).pulled
       go (Err why) t = tt
 
@@ -219,8 +219,8 @@ module _ {S : Type 0} (state : Held S → State) (bs : List (List ℕ)) (ps : Li
     more = closed.more;
     workers = W;
     reports = told_workers served (AreReports held closed.more bs ps) closed.reports;
-    told = subst (λ m. Tells m (reports_in W) (held ++ closed.more) (fault_of m W stopped) outcome) is
-        (subst (λ (z : List EventValue). Tells n (reports_in W) z (fault_of n W stopped) outcome) closed.grew tells);
+    told = subst (λ m. TellsRun m (reports_if_served W) (held ++ closed.more) (fault_of_run m W stopped) outcome) is
+        (subst (λ (z : List EventValue). TellsRun n (reports_if_served W) z (fault_of_run n W stopped) outcome) closed.grew tells);
     pulled = pulls;
     kept = λ clean is_open.
         let low : length held ≤ l.rows = (let a = count (was_clean clean) in let b = closed.mark in let c = rest.mark clean is_open in omega (arith, a, b, c)) in
@@ -232,7 +232,7 @@ module _ {S : Type 0} (state : Held S → State) (bs : List (List ℕ)) (ps : Li
   pub ran : HasCleanDisk (state l.conn) → IfOk outcome (IsRun bs ps held (state l.conn).now)
   ran clean = go outcome tells
     where
-      go : (o : Result (List ℕ) RunFault) → Tells n (reports_in (workers_of served)) A (fault_of n (workers_of served) stopped) o → IfOk o (IsRun bs ps held (state l.conn).now)
+      go : (o : Result (List ℕ) RunFault) → TellsRun n (reports_if_served (workers_of served)) A (fault_of_run n (workers_of served) stopped) o → IfOk o (IsRun bs ps held (state l.conn).now)
       go (Ok text) t = let f = finished served n bs ps A held closed.more stopped text is closed.grew closed.reports t in record {
         arrivals = A;
         kept = rest.all clean f.ok f.unstopped;
@@ -246,14 +246,14 @@ module _ {S : Type 0} (state : Held S → State) (bs : List (List ℕ)) (ps : Li
   pub says : IfOk outcome (λ text. (arrivals : List EventValue) × SaysRun bs arrivals text)
   says = go outcome tells
     where
-      go : (o : Result (List ℕ) RunFault) → Tells n (reports_in (workers_of served)) A (fault_of n (workers_of served) stopped) o → IfOk o (λ text. (arrivals : List EventValue) × SaysRun bs arrivals text)
+      go : (o : Result (List ℕ) RunFault) → TellsRun n (reports_if_served (workers_of served)) A (fault_of_run n (workers_of served) stopped) o → IfOk o (λ text. (arrivals : List EventValue) × SaysRun bs arrivals text)
       go (Ok text) t = (A, (finished served n bs ps A held closed.more stopped text is closed.grew closed.reports t).says)
       go (Err why) t = tt
 
   pub settles : HasCleanDisk (state l.conn) → OnOk outcome (IsSettled (state l.conn))
   settles clean = go outcome tells
     where
-      go : (o : Result (List ℕ) RunFault) → Tells n (reports_in (workers_of served)) A (fault_of n (workers_of served) stopped) o → OnOk o (IsSettled (state l.conn))
+      go : (o : Result (List ℕ) RunFault) → TellsRun n (reports_if_served (workers_of served)) A (fault_of_run n (workers_of served) stopped) o → OnOk o (IsSettled (state l.conn))
       go (Ok text) t = let f = finished served n bs ps A held closed.more stopped text is closed.grew closed.reports t in rest.settled clean f.ok f.unstopped
       go (Err why) t = tt
 
@@ -277,7 +277,7 @@ not_some : (stopped : Option KeepFault) → stopped ≡ None → IsSome stopped 
 not_some stopped none some = let bad : false ≡ true = subst IsSome none some in cc
 
 -- the rest, where nothing is done for it
-module _ {S : Type 0} (state : Held S → State) (k l : Kept S) (A : List EventValue) (served : Result Served ServeFault) where
+module _ {S : Type 0} (state : Held S → State) (k l : KeptTable S) (A : List EventValue) (served : Result Served ServeFault) where
   pub rest_idle : (stopped : Option KeepFault) → KeepsUp (state k.conn) k.rows A → (IsOk served → stopped ≡ None → ⊥) → KeepsRest state k k A served stopped stopped
   rest_idle stopped first never = record {
     first = first;
@@ -319,30 +319,30 @@ module _ {S : Type 0} (state : Held S → State) (k l : Kept S) (A : List EventV
 
 -- what is told at each end
 pub tell_served : (served : Result Served ServeFault) (fault : ServeFault) (n : ℕ) (A : List EventValue) (stopped : Option KeepFault) → served ≡ Err fault
-    → Tells n (reports_in (workers_of served)) A (fault_of n (workers_of served) stopped) (Err (of_serve fault))
-tell_served served fault n A stopped is = subst (λ (z : Result Served ServeFault). Tells n (reports_in (workers_of z)) A (fault_of n (workers_of z) stopped) (Err (of_serve fault))) (sym is) refl
+    → TellsRun n (reports_if_served (workers_of served)) A (fault_of_run n (workers_of served) stopped) (Err (of_serve fault))
+tell_served served fault n A stopped is = subst (λ (z : Result Served ServeFault). TellsRun n (reports_if_served (workers_of z)) A (fault_of_run n (workers_of z) stopped) (Err (of_serve fault))) (sym is) refl
 
 pub tell_first : (served : Result Served ServeFault) (s : Served) (why : RunFault) (n : ℕ) (A : List EventValue) (stopped : Option KeepFault) → served ≡ Ok s → first_fault 0 n s.reports.items ≡ Some why
-    → Tells n (reports_in (workers_of served)) A (fault_of n (workers_of served) stopped) (Err why)
-tell_first served s why n A stopped is first = subst (λ (z : Result Served ServeFault). Tells n (reports_in (workers_of z)) A (fault_of n (workers_of z) stopped) (Err why)) (sym is)
-    (subst (λ (o : Option RunFault). Tells n s.reports.items A (option_or o (keeping_fault stopped)) (Err why)) (sym first) refl)
+    → TellsRun n (reports_if_served (workers_of served)) A (fault_of_run n (workers_of served) stopped) (Err why)
+tell_first served s why n A stopped is first = subst (λ (z : Result Served ServeFault). TellsRun n (reports_if_served (workers_of z)) A (fault_of_run n (workers_of z) stopped) (Err why)) (sym is)
+    (subst (λ (o : Option RunFault). TellsRun n s.reports.items A (option_or o (keeping_fault stopped)) (Err why)) (sym first) refl)
 
 pub tell_kept : (served : Result Served ServeFault) (s : Served) (why : KeepFault) (n : ℕ) (A : List EventValue) (stopped : Option KeepFault) → served ≡ Ok s → first_fault 0 n s.reports.items ≡ None → stopped ≡ Some why
-    → Tells n (reports_in (workers_of served)) A (fault_of n (workers_of served) stopped) (Err (of_keep why))
-tell_kept served s why n A stopped is first stop = subst (λ (z : Result Served ServeFault). Tells n (reports_in (workers_of z)) A (fault_of n (workers_of z) stopped) (Err (of_keep why))) (sym is)
-    (subst (λ (o : Option RunFault). Tells n s.reports.items A (option_or o (keeping_fault stopped)) (Err (of_keep why))) (sym first)
-    (subst (λ (o : Option KeepFault). Tells n s.reports.items A (keeping_fault o) (Err (of_keep why))) (sym stop) refl))
+    → TellsRun n (reports_if_served (workers_of served)) A (fault_of_run n (workers_of served) stopped) (Err (of_keep why))
+tell_kept served s why n A stopped is first stop = subst (λ (z : Result Served ServeFault). TellsRun n (reports_if_served (workers_of z)) A (fault_of_run n (workers_of z) stopped) (Err (of_keep why))) (sym is)
+    (subst (λ (o : Option RunFault). TellsRun n s.reports.items A (option_or o (keeping_fault stopped)) (Err (of_keep why))) (sym first)
+    (subst (λ (o : Option KeepFault). TellsRun n s.reports.items A (keeping_fault o) (Err (of_keep why))) (sym stop) refl))
 
-text_told : (n : ℕ) (rs : List Report) (A : List EventValue) (r : Result (List ℕ) RunFault) → IfOk r (IsRunText (read_in (take n rs)) (refused_in (take n rs)) A) → IfErr r (λ why. why ≡ run.Database command.OutOfMemory) → Tells n rs A None r
+text_told : (n : ℕ) (rs : List Report) (A : List EventValue) (r : Result (List ℕ) RunFault) → IfOk r (IsRunText (read_in (take n rs)) (refused_in (take n rs)) A) → IfErr r (λ why. why ≡ run.Database command.OutOfMemory) → TellsRun n rs A None r
 text_told n rs A (Ok text) ok err = ok
 text_told n rs A (Err why) ok err = err
 
 pub tell_text : (served : Result Served ServeFault) (s : Served) (n : ℕ) (A : List EventValue) (stopped : Option KeepFault) (r : Result (List ℕ) RunFault) → served ≡ Ok s → first_fault 0 n s.reports.items ≡ None → stopped ≡ None
     → IfOk r (IsRunText (read_in (take n s.reports.items)) (refused_in (take n s.reports.items)) A) → IfErr r (λ why. why ≡ run.Database command.OutOfMemory)
-    → Tells n (reports_in (workers_of served)) A (fault_of n (workers_of served) stopped) r
-tell_text served s n A stopped r is first stop ok err = subst (λ (z : Result Served ServeFault). Tells n (reports_in (workers_of z)) A (fault_of n (workers_of z) stopped) r) (sym is)
-    (subst (λ (o : Option RunFault). Tells n s.reports.items A (option_or o (keeping_fault stopped)) r) (sym first)
-    (subst (λ (o : Option KeepFault). Tells n s.reports.items A (keeping_fault o) r) (sym stop) (text_told n s.reports.items A r ok err)))
+    → TellsRun n (reports_if_served (workers_of served)) A (fault_of_run n (workers_of served) stopped) r
+tell_text served s n A stopped r is first stop ok err = subst (λ (z : Result Served ServeFault). TellsRun n (reports_if_served (workers_of z)) A (fault_of_run n (workers_of z) stopped) r) (sym is)
+    (subst (λ (o : Option RunFault). TellsRun n s.reports.items A (option_or o (keeping_fault stopped)) r) (sym first)
+    (subst (λ (o : Option KeepFault). TellsRun n s.reports.items A (keeping_fault o) r) (sym stop) (text_told n s.reports.items A r ok err)))
 
 -- a database with the table holds its events
 pub inbox_holds : (db : Database) (held : List EventValue) → IsInbox db held → Holds db held

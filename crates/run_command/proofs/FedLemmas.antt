@@ -7,14 +7,14 @@ use Rattle.inbox.specs.KeyOrder.{key_cmp}
 use Rattle.inbox.specs.Ordered.{append_new, has}
 use Rattle.inbox.specs.Sets.{set_of}
 use Rattle.site.specs.Delta.{delta}
-use Rattle.site.specs.Machine.{Answers, arrivals_after, call, handled_by}
+use Rattle.site.specs.Machine.{HasRightReply, arrivals_after, call, handled_by}
 use Rattle.site.specs.declared.call.Command.TheVariants as command
 use Rattle.site.specs.declared.call.Reply.TheVariants.{Summed}
 use Rattle.site.specs.declared.call.Call.{Call}
 use Rattle.turn_lock.specs.declared.machine.Entry.{Entry}
 use Rattle.turn_lock.specs.History.{entry, made_by, same_number}
-use Rattle.site_lock.specs.Pass.{IsHistory, Shown, leave, leaves}
-use Rattle.feeds.specs.Pull.{Brings, Holds}
+use Rattle.site_lock.specs.Pass.{IsHistory, ShownPass, leave, leaves}
+use Rattle.feeds.specs.Pull.{BringsLacking, HoldsEach}
 use Rattle.feeds.specs.Report.{handled}
 use Rattle.feeds.specs.Serve.{EachAt, HasCalls, WorkerFeeds, WorkerPulls, worker_of}
 use Rattle.feeds.specs.declared.report.Report.{Report}
@@ -27,20 +27,20 @@ abbrev pub IsFound : Type 0
 IsFound = (A : List EventValue) (e : EventValue) → Contains A e → has key_cmp A e ≡ true
 
 -- what is there stays there where more comes
-pub holds_later : IsFound → (A B L more : List EventValue) → B ≡ A ++ more → Holds A L → Holds B L
-holds_later is_found A B L more is h = subst (λ (z : List EventValue). Holds B z) (append-nil L) (holds_more is_found A L [] B h (more, is))
+pub holds_later : IsFound → (A B L more : List EventValue) → B ≡ A ++ more → HoldsEach A L → HoldsEach B L
+holds_later is_found A B L more is h = subst (λ (z : List EventValue). HoldsEach B z) (append-nil L) (holds_more is_found A L [] B h (more, is))
 
 -- what a call handled is there behind it
-holds_handled : IsFound → (A L : List EventValue) → Holds (append_new key_cmp A L) L
+holds_handled : IsFound → (A L : List EventValue) → HoldsEach (append_new key_cmp A L) L
 holds_handled is_found A L = holds_more is_found A [] L (append_new key_cmp A L) tt ([], ap (λ (z : List EventValue). append_new key_cmp z L) (sym (append-nil A)))
 
-pub holds_both : (A L M : List EventValue) → Holds A L → Holds A M → Holds A (L ++ M)
+pub holds_both : (A L M : List EventValue) → HoldsEach A L → HoldsEach A M → HoldsEach A (L ++ M)
 holds_both A [] M h k = k
 holds_both A (x ∷ xs) M h k = (h.0, holds_both A xs M h.1 k)
 
 -- one call of the pass more, where what comes behind it is there
-mine_there : IsFound → (n : List ℕ) (e : Entry Call) (es : List (Entry Call)) (A : List EventValue) → ((cs : List Call) → made_by n es ≡ map (entry n) cs → Holds (leave (arrivals_after A e.call) es) (handled cs))
-    → (m : List Call) → e ∷ made_by n es ≡ map (entry n) m → Holds (leave (arrivals_after A e.call) es) (handled m)
+mine_there : IsFound → (n : List ℕ) (e : Entry Call) (es : List (Entry Call)) (A : List EventValue) → ((cs : List Call) → made_by n es ≡ map (entry n) cs → HoldsEach (leave (arrivals_after A e.call) es) (handled cs))
+    → (m : List Call) → e ∷ made_by n es ≡ map (entry n) m → HoldsEach (leave (arrivals_after A e.call) es) (handled m)
 mine_there is_found n e es A behind [] is = absurd (cc)
 mine_there is_found n e es A behind (c ∷ cs) is =
     let first : e ≡ entry n c = cc in
@@ -48,15 +48,15 @@ mine_there is_found n e es A behind (c ∷ cs) is =
     let L : List EventValue = handled_by c.command c.reply in
     let B = arrivals_after A e.call in
     let g = leave_grows B es in
-    let now : Holds B L = subst (λ (x : Entry Call). Holds (arrivals_after A x.call) L) (sym first) (holds_handled is_found A L) in
+    let now : HoldsEach B L = subst (λ (x : Entry Call). HoldsEach (arrivals_after A x.call) L) (sym first) (holds_handled is_found A L) in
     holds_both (leave B es) L (handled cs) (holds_later is_found B (leave B es) L g.0 g.1 now) (behind cs rest)
 
 -- the events that one pass handled are there after a history that has its calls
-all_there : IsFound → (n : List ℕ) (log : List (Entry Call)) (A : List EventValue) (m : List Call) → made_by n log ≡ map (entry n) m → Holds (leave A log) (handled m)
+all_there : IsFound → (n : List ℕ) (log : List (Entry Call)) (A : List EventValue) (m : List Call) → made_by n log ≡ map (entry n) m → HoldsEach (leave A log) (handled m)
 all_there is_found n [] A [] is = tt
 all_there is_found n [] A (c ∷ cs) is = absurd (cc)
 all_there is_found n (e ∷ es) A m is =
-    (elim (same_number e.number n) as (λ b. cond b (e ∷ made_by n es) (made_by n es) ≡ map (entry n) m → Holds (leave (arrivals_after A e.call) es) (handled m)) [
+    (elim (same_number e.number n) as (λ b. cond b (e ∷ made_by n es) (made_by n es) ≡ map (entry n) m → HoldsEach (leave (arrivals_after A e.call) es) (handled m)) [
       | true ↦ mine_there is_found n e es A (λ cs rest. all_there is_found n es (arrivals_after A e.call) cs rest) m
       | false ↦ (λ others. all_there is_found n es (arrivals_after A e.call) m others)
     ]) is
@@ -67,7 +67,7 @@ pub record Moment (A Z : List EventValue) (c : Call) : Type 0 where
   pub before : List EventValue
   pub behind : List EventValue
   pub splits : Z ≡ (A ++ before) ++ behind
-  pub answers : Answers (A ++ before) c
+  pub answers : HasRightReply (A ++ before) c
 
 -- the first call of a pass in a history was answered at a moment of it
 pub first_moment : (n : List ℕ) (log : List (Entry Call)) (A : List EventValue) (c : Call) (cs : List Call) → IsHistory A log → made_by n log ≡ map (entry n) (c ∷ cs) → Moment A (leave A log) c
@@ -75,12 +75,12 @@ first_moment n [] A c cs legal is = absurd (cc)
 first_moment n (e ∷ es) A c cs legal is =
     (elim (same_number e.number n) as (λ b. cond b (e ∷ made_by n es) (made_by n es) ≡ map (entry n) (c ∷ cs) → Moment A (leave A (e ∷ es)) c) [
       | true ↦ (λ h. let first : e ≡ entry n c = cc in let g = leave_grows A (e ∷ es) in
-          let now : Answers A c = subst (λ (x : Entry Call). Answers A x.call) first legal.0 in
-          record { before = []; behind = g.0; splits = g.1 ∙ ap (λ (z : List EventValue). z ++ g.0) (sym (append-nil A)); answers = subst (λ (z : List EventValue). Answers z c) (sym (append-nil A)) now })
+          let now : HasRightReply A c = subst (λ (x : Entry Call). HasRightReply A x.call) first legal.0 in
+          record { before = []; behind = g.0; splits = g.1 ∙ ap (λ (z : List EventValue). z ++ g.0) (sym (append-nil A)); answers = subst (λ (z : List EventValue). HasRightReply z c) (sym (append-nil A)) now })
       | false ↦ (λ h. let B = arrivals_after A e.call in let g = leave_grows A (e ∷ []) in
           let m = first_moment n es B c cs legal.1 h in
           let same : B ++ m.before ≡ A ++ (g.0 ++ m.before) = ap (λ (z : List EventValue). z ++ m.before) g.1 ∙ append_assoc A g.0 m.before in
-          record { before = g.0 ++ m.before; behind = m.behind; splits = m.splits ∙ ap (λ (z : List EventValue). z ++ m.behind) same; answers = subst (λ (z : List EventValue). Answers z c) same m.answers })
+          record { before = g.0 ++ m.before; behind = m.behind; splits = m.splits ∙ ap (λ (z : List EventValue). z ++ m.behind) same; answers = subst (λ (z : List EventValue). HasRightReply z c) same m.answers })
     ]) is
 
 -- the beginning of a history is one
@@ -89,15 +89,15 @@ legal_front A [] ys legal = tt
 legal_front A (e ∷ es) ys legal = (legal.0, legal_front (arrivals_after A e.call) es ys legal.1)
 
 -- what the workers of peers moved is among the arrivals, and what was lacking, where they were done
-module _ (is_found : IsFound) (p q : Shown) (later : List (Entry Call)) (legal : IsHistory q.opening q.seen) (more : List EventValue) (grew : leave q.opening (q.seen ++ later) ≡ q.opening ++ more) where
+module _ (is_found : IsFound) (p q : ShownPass) (later : List (Entry Call)) (legal : IsHistory q.opening q.seen) (more : List EventValue) (grew : leave q.opening (q.seen ++ later) ≡ q.opening ++ more) where
   all : List EventValue
   all = leave q.opening (q.seen ++ later)
 
   -- what is there by then stays
-  pub stays : (L : List EventValue) → Holds (leaves q) L → Holds (q.opening ++ more) L
-  stays L h = let g = leave_grows (leaves q) later in subst (λ (z : List EventValue). Holds z L) grew (holds_later is_found (leaves q) (leave q.opening (q.seen ++ later)) L g.0 (leave-append q.opening q.seen later ∙ g.1) h)
+  pub stays : (L : List EventValue) → HoldsEach (leaves q) L → HoldsEach (q.opening ++ more) L
+  stays L h = let g = leave_grows (leaves q) later in subst (λ (z : List EventValue). HoldsEach z L) grew (holds_later is_found (leaves q) (leave q.opening (q.seen ++ later)) L g.0 (leave-append q.opening q.seen later ∙ g.1) h)
 
-  pulled_one : (peer : List EventValue) (n : List ℕ) (m : List Call) → HasCalls q.seen n m → Brings peer m (leaves q) → IsPulled q.opening more peer
+  pulled_one : (peer : List EventValue) (n : List ℕ) (m : List Call) → HasCalls q.seen n m → BringsLacking peer m (leaves q) → IsPulled q.opening more peer
   pulled_one peer n m calls b =
       let c : Call = call command.Summary (Summed b.peer) in
       let is : made_by n q.seen ≡ map (entry n) (c ∷ b.takes) = calls ∙ ap (λ (z : List Call). map (entry n) z) b.told in

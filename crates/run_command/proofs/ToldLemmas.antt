@@ -6,8 +6,8 @@ use Rattle.attributes.specs.Event.{EventValue}
 use Rattle.event_json.specs.Reading.{Reads, Refuses}
 use Rattle.event_json.specs.declared.fault.ReadFault.{ReadFault}
 use Rattle.event_json.specs.declared.fault.ReadFault.TheVariants as read
-use Rattle.feeds.specs.Pull.{Holds}
-use Rattle.feeds.specs.Report.{EndsEarly, Tells, end_of, has_number, sequenced}
+use Rattle.feeds.specs.Pull.{HoldsEach}
+use Rattle.feeds.specs.Report.{EndsEarly, TellsReport, end_if_unread, is_with_number, sequenced}
 use Rattle.feeds.specs.declared.report.WorkerEnd.{WorkerEnd}
 use Rattle.feeds.specs.declared.report.WorkerEnd.TheVariants.{BadInput, Done, GateShut, OutOfMemory}
 use Rattle.feeds.specs.declared.report.Report.{Report}
@@ -36,7 +36,7 @@ are_fed held more (b ∷ bs) ps (r ∷ rs) told = (told.0, are_fed held more bs 
 pub record WatchedFlusher (arrivals : List EventValue) (bs : List (List ℕ)) (rs : List Report) : Type 0 where
   pub lists : List (List EventValue)
   pub read : EachSpells bs lists
-  pub fed : Holds arrivals (sequenced (joined lists))
+  pub fed : HoldsEach arrivals (sequenced (joined lists))
   pub all : read_in (take (length bs) rs) ≡ length (joined lists)
   pub none : refused_in (take (length bs) rs) + length (sequenced (joined lists)) ≡ length (joined lists)
 
@@ -48,7 +48,7 @@ done_by place feeds GateShut h = absurd (cc)
 done_by place zero (BadInput fault) h = absurd (cc)
 done_by place (suc n) (BadInput fault) h = absurd (cc)
 
-not_done : (fault : ReadFault) → end_of fault ≡ Done → ⊥
+not_done : (fault : ReadFault) → end_if_unread fault ≡ Done → ⊥
 not_done read.OutOfMemory h = absurd (cc)
 not_done read.NotJson h = absurd (cc)
 not_done read.NotEvent h = absurd (cc)
@@ -63,16 +63,16 @@ no_first (Some x) b h = absurd (cc)
 pub record Whole (arrivals : List EventValue) (b : List ℕ) (r : Report) : Type 0 where
   pub events : List EventValue
   pub reads : Reads b events
-  pub fed : Holds arrivals (sequenced events)
+  pub fed : HoldsEach arrivals (sequenced events)
   pub all : r.read ≡ length events
   pub none : r.refused + length (sequenced events) ≡ length events
 
 whole : (arrivals : List EventValue) (b : List ℕ) (r : Report) → IsFed arrivals b r → r.ended ≡ Done → Whole arrivals b r
 whole arrivals b r fed done = elim fed.1 [
-  | inl f ↦ (let t : Tells f.0 fed.0 r = f.2 in let d = t.done done in let h = ap (λ (z : List EventValue). length z) d.0 in record {
+  | inl f ↦ (let t : TellsReport f.0 fed.0 r = f.2 in let d = t.done done in let h = ap (λ (z : List EventValue). length z) d.0 in record {
     events = f.0;
     reads = f.1;
-    fed = subst (λ (z : List EventValue). Holds arrivals z) d.0 fed.2;
+    fed = subst (λ (z : List EventValue). HoldsEach arrivals z) d.0 fed.2;
     all = d.1;
     none = omega (arith, t.counts.read, t.counts.handled, h, d.1);
   })
@@ -90,13 +90,13 @@ told arrivals (b ∷ bs) (r ∷ rs) place fed none =
     let n = no_first (of_end place (suc (length bs)) r.ended) (first_fault (place + 1) (length bs) rs) (sym (at_first place (length bs) r rs) ∙ none) in
     let w = whole arrivals b r fed.0 (done_by place (suc (length bs)) r.ended n.0) in
     let t = told arrivals bs rs (place + 1) fed.1 n.1 in
-    let is : sequenced (w.events ++ joined t.lists) ≡ sequenced w.events ++ sequenced (joined t.lists) = filter-append has_number w.events (joined t.lists) in
+    let is : sequenced (w.events ++ joined t.lists) ≡ sequenced w.events ++ sequenced (joined t.lists) = filter-append is_with_number w.events (joined t.lists) in
     let counted = ap (λ (z : List EventValue). length z) is ∙ length-append (sequenced w.events) (sequenced (joined t.lists)) in
     let both = length-append w.events (joined t.lists) in
     record {
       lists = w.events ∷ t.lists;
       read = (w.reads, t.read);
-      fed = subst (λ (z : List EventValue). Holds arrivals z) (sym is) (holds_both arrivals (sequenced w.events) (sequenced (joined t.lists)) w.fed t.fed);
+      fed = subst (λ (z : List EventValue). HoldsEach arrivals z) (sym is) (holds_both arrivals (sequenced w.events) (sequenced (joined t.lists)) w.fed t.fed);
       all = omega (arith, w.all, t.all, both);
       none = omega (arith, w.none, t.none, both, counted);
     }
@@ -109,7 +109,7 @@ pub record Blamed (bs : List (List ℕ)) (place i : ℕ) (f : ReadFault) : Type 
   pub there : slice_get bs k ≡ Some b
   pub refuses : Refuses b f
 
-not_memory : (place n : ℕ) (f : ReadFault) (i : ℕ) (g : ReadFault) → of_end place n (end_of f) ≡ Some (run.Feed i g) → (i ≡ place) × (f ≡ g) × (f ≢ read.OutOfMemory)
+not_memory : (place n : ℕ) (f : ReadFault) (i : ℕ) (g : ReadFault) → of_end place n (end_if_unread f) ≡ Some (run.Feed i g) → (i ≡ place) × (f ≡ g) × (f ≢ read.OutOfMemory)
 not_memory place n read.OutOfMemory i g h = absurd (cc)
 not_memory place zero read.NotJson i g h = absurd (cc)
 not_memory place (suc n) read.NotJson i g h = (cc, cc, λ e. absurd (cc))

@@ -6,7 +6,7 @@ use Rattle.attributes.specs.Event.{EventValue}
 use Rattle.feeds.specs.declared.report.Report.{Report}
 use Rattle.feeds.specs.declared.serving.ServeFault.{ServeFault}
 use Rattle.feeds.specs.declared.serving.Served.{Served}
-use Rattle.inbox_table.specs.Calls.{IsSettled, Kept}
+use Rattle.inbox_table.specs.Calls.{IsSettled, KeptTable}
 use Rattle.inbox_table.specs.Rows.{IsInbox}
 use Rattle.keeper.specs.Keep.{Grows, KeepsUp}
 use Rattle.keeper.specs.declared.fault.KeepFault.{KeepFault}
@@ -19,7 +19,7 @@ workers_of (Err fault) = Err fault
 module _ {S : Type 0} (state : Held S → State) where
   -- a keeper k came to be l in keeping the rest of these arrivals, where nothing had stopped it
   -- before and workers reported; else nothing was done
-  pub record KeepsRest (k l : Kept S) (arrivals : List EventValue)
+  pub record KeepsRest (k l : KeptTable S) (arrivals : List EventValue)
       (served : Result Served ServeFault) (before stopped : Option KeepFault) : Type 0 where
     -- the table still has the first of them, as many as before or more
     pub first : KeepsUp (state l.conn) l.rows arrivals

@@ -34,15 +34,15 @@ of_end place (suc feeds) (BadInput fault) = Some (run.Feed place fault)
 
 -- the database's fault in a run: want of memory, a refusal of the database, or rows that no
 -- inbox has
-abbrev pub IsOfDatabase : CommandFault → Type 0
-IsOfDatabase command.OutOfMemory = Unit {0}
-IsOfDatabase command.Store = Unit {0}
-IsOfDatabase command.Foreign = Unit {0}
-IsOfDatabase _ = ⊥
+abbrev pub IsDatabaseFaultOfRun : CommandFault → Type 0
+IsDatabaseFaultOfRun command.OutOfMemory = Unit {0}
+IsDatabaseFaultOfRun command.Store = Unit {0}
+IsDatabaseFaultOfRun command.Foreign = Unit {0}
+IsDatabaseFaultOfRun _ = ⊥
 
 -- a fault that is told of the database is such a one
 abbrev pub IsRunFault : RunFault → Type 0
-IsRunFault (run.Database why) = IsOfDatabase why
+IsRunFault (run.Database why) = IsDatabaseFaultOfRun why
 IsRunFault run.NoThread = Unit {0}
 IsRunFault (run.Feed feed fault) = Unit {0}
 

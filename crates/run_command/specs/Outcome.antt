@@ -40,23 +40,23 @@ keeping_fault (Some fault) = Some (of_keep fault)
 
 -- the fault that a run tells: that of the workers as a whole, else the first worker's, of which so
 -- many are feeds, else that of keeping
-abbrev pub fault_of : ℕ → Result (List Report) ServeFault → Option KeepFault → Option RunFault
-fault_of feeds (Err fault) stopped = Some (of_serve fault)
-fault_of feeds (Ok rs) stopped = option_or (first_fault 0 feeds rs) (keeping_fault stopped)
+abbrev pub fault_of_run : ℕ → Result (List Report) ServeFault → Option KeepFault → Option RunFault
+fault_of_run feeds (Err fault) stopped = Some (of_serve fault)
+fault_of_run feeds (Ok rs) stopped = option_or (first_fault 0 feeds rs) (keeping_fault stopped)
 
 -- the reports, none where there are none
-abbrev pub reports_in : Result (List Report) ServeFault → List Report
-reports_in (Ok rs) = rs
-reports_in (Err fault) = []
+abbrev pub reports_if_served : Result (List Report) ServeFault → List Report
+reports_if_served (Ok rs) = rs
+reports_if_served (Err fault) = []
 
 -- the outcome is the fault, where there is one; else the text that counts what the first so many
 -- reports read, over these arrivals, or want of memory for it
-abbrev pub Tells : ℕ → List Report → List EventValue → Option RunFault
+abbrev pub TellsRun : ℕ → List Report → List EventValue → Option RunFault
     → Result (List ℕ) RunFault → Type 0
-Tells feeds rs arrivals (Some fault) outcome = outcome ≡ Err fault
-Tells feeds rs arrivals None (Ok text) =
+TellsRun feeds rs arrivals (Some fault) outcome = outcome ≡ Err fault
+TellsRun feeds rs arrivals None (Ok text) =
     IsRunText (read_in (take feeds rs)) (refused_in (take feeds rs)) arrivals text
-Tells feeds rs arrivals None (Err why) = why ≡ run.Database OutOfMemory
+TellsRun feeds rs arrivals None (Err why) = why ≡ run.Database OutOfMemory
 
 -- the inbox has what was held, and behind it the first so many of these or none
 abbrev pub HasFrom : Database → List EventValue → List EventValue → Type 0
@@ -72,8 +72,8 @@ pub record HasRun (feeds : List (List ℕ)) (peers : List (List EventValue))
   pub workers : Result (List Report) ServeFault
   pub reports : IfOk workers (AreReports held more feeds peers)
   -- the first fault is told, or there is none
-  pub told : Tells (length feeds) (reports_in workers) (held ++ more)
-      (fault_of (length feeds) workers stopped) outcome
+  pub told : TellsRun (length feeds) (reports_if_served workers) (held ++ more)
+      (fault_of_run (length feeds) workers stopped) outcome
   -- where there is a text, each peer brought what it was to bring
   pub pulled : IfOk outcome (λ _. ArePulled held more peers)
   -- whatever the fault, the inbox has what it held and the first of what came
@@ -84,7 +84,7 @@ pub record HasRun (feeds : List (List ℕ)) (peers : List (List EventValue))
   pub settled : HasCleanDisk new → IsOk workers → stopped ≡ None → IsSettled new
 
 -- what a run leaves that wasn't begun: the events that were held
-pub record IsUnbegun (old new : State) (stopped : Option KeepFault)
+pub record IsRunUnbegun (old new : State) (stopped : Option KeepFault)
     (outcome : Result (List ℕ) RunFault) : Type 0 where
   pub why : CommandFault
   pub told : outcome ≡ Err (run.Database why)
@@ -102,7 +102,7 @@ WasHeld db held = (events : List EventValue) → database.Holds db events → he
 -- what a run leaves: it wasn't begun, or was begun over the events that the database held
 abbrev pub RunsTo : List (List ℕ) → List (List EventValue) → State → State → Option KeepFault
     → Result (List ℕ) RunFault → Type 0
-RunsTo feeds peers old new stopped outcome = IsUnbegun old new stopped outcome
+RunsTo feeds peers old new stopped outcome = IsRunUnbegun old new stopped outcome
     ⊎ ((held : List EventValue) × (HasCleanDisk new → WasHeld old.now held)
     × HasRun feeds peers held new stopped outcome)
 
@@ -116,8 +116,8 @@ pub record IsToldBy (feeds : List (List ℕ)) (peers : List (List EventValue))
   pub workers : Result (List Report) ServeFault
   pub stopped : Option KeepFault
   pub reports : IfOk workers (AreReports held more feeds peers)
-  pub told : Tells (length feeds) (reports_in workers) (held ++ more)
-      (fault_of (length feeds) workers stopped) outcome
+  pub told : TellsRun (length feeds) (reports_if_served workers) (held ++ more)
+      (fault_of_run (length feeds) workers stopped) outcome
   pub pulled : IfOk outcome (λ _. ArePulled held more peers)
 
 -- what a run tells: it wasn't begun, for a fault of the database, or was begun

@@ -9,7 +9,7 @@ use Rattle.inbox.specs.Ordered.{append_new}
 use Rattle.inbox.specs.Sets.{set_of}
 use Rattle.site.specs.Delta.{delta}
 use Rattle.site.specs.declared.call.Call.{Call}
-use Rattle.feeds.specs.Pull.{Holds, PullsFrom}
+use Rattle.feeds.specs.Pull.{HoldsEach, PullsFrom}
 use Rattle.feeds.specs.Report.{handled}
 use Rattle.feeds.specs.declared.report.WorkerEnd.TheVariants.{Done}
 use Rattle.feeds.specs.declared.report.Report.{Report}
@@ -27,7 +27,7 @@ module _ (held more : List EventValue) where
     pub moment : more ≡ before ++ behind
     pub told : Sources
     pub digests : Digests (set_of (held ++ before)) told
-    pub brought : Holds (held ++ more) (delta (set_of peer) told)
+    pub brought : HoldsEach (held ++ more) (delta (set_of peer) told)
 
   -- so it is of each peer
   abbrev pub ArePulled : List (List EventValue) → Type 0
@@ -38,5 +38,5 @@ module _ (held more : List EventValue) where
   pub record IsPull (peer : List EventValue) (r : Report) : Type 0 where
     pub calls : List Call
     pub pull : PullsFrom peer calls (held ++ more) r
-    pub moved : Holds (held ++ more) (handled calls)
+    pub moved : HoldsEach (held ++ more) (handled calls)
     pub done : r.ended ≡ Done → IsPulled peer

@@ -44,7 +44,7 @@ pub record SaysRun (feeds : List (List ℕ)) (arrivals : List EventValue) (text 
     : Type 0 where
   pub lists : List (List EventValue)
   pub read : EachSpells feeds lists
-  pub fed : pull.Holds arrivals (sequenced (joined lists))
+  pub fed : pull.HoldsEach arrivals (sequenced (joined lists))
   pub refused : ℕ
   pub counted : refused + length (sequenced (joined lists)) ≡ length (joined lists)
   pub prints : IsRunText (length (joined lists)) refused arrivals text
@@ -76,4 +76,4 @@ IsFeedFault feeds (run.Feed feed fault) =
 -- the report is that of a feed of these bytes, whose events that it handed over are all among these
 -- arrivals
 abbrev pub IsFed : List EventValue → List ℕ → Report → Type 0
-IsFed arrivals b r = (m : List Call) × Feeds b m r × pull.Holds arrivals (handled m)
+IsFed arrivals b r = (m : List Call) × Feeds b m r × pull.HoldsEach arrivals (handled m)

@@ -3,7 +3,7 @@ use Rattle.std.specs.Prelude.{◌≡◌, ◌≤◌, ℕ, List, ◌++◌, IfOk, I
 use Rattle.sqlite.specs.Held.{Held}
 use Rattle.sqlite.specs.State.{State, HasCleanDisk}
 use Rattle.attributes.specs.Event.{EventValue}
-use Rattle.inbox_table.specs.Calls.{Kept}
+use Rattle.inbox_table.specs.Calls.{KeptTable}
 use Rattle.keeper.specs.Keep.{Grows, KeepsUp}
 use Rattle.keeper.specs.declared.fault.KeepFault.{KeepFault}
 use Rattle.feeds.specs.declared.serving.ServeFault.{ServeFault}
@@ -16,8 +16,8 @@ module _ {S : Type 0} (state : Held S → State) where
   -- and more behind it or nothing; the table has the first of that, at least as many as before, and
   -- so it is after a crash; the database stays open but where keeping stopped; where the workers
   -- reported, all that they handed over is there
-  pub record IsClosed (k : Kept S) (opening : List EventValue) (feeds : List (List ℕ))
-      (peers : List (List EventValue)) (l : Kept S) (arrivals : List EventValue)
+  pub record IsClosed (k : KeptTable S) (opening : List EventValue) (feeds : List (List ℕ))
+      (peers : List (List EventValue)) (l : KeptTable S) (arrivals : List EventValue)
       (served : Result Served ServeFault) (stopped : Option KeepFault) : Type 0 where
     pub first : KeepsUp (state l.conn) l.rows arrivals
     pub mark : k.rows ≤ l.rows

@@ -3,8 +3,8 @@ use Rattle.std.specs.Prelude.{◌≡◌, ◌+◌, ◌-◌, ◌^◌, ℕ, List, m
 use Rattle.std.specs.List.{AllByRecursion}
 use Rattle.attributes.specs.Event.{EventValue}
 use Rattle.views.specs.declared.query.Query.{Query}
-use Rattle.site_lock.specs.Pass.{Shown}
-use Rattle.feeds.specs.Serve.{Serves}
+use Rattle.site_lock.specs.Pass.{ShownPass}
+use Rattle.feeds.specs.Serve.{ServesJobs}
 use Rattle.feeds.specs.declared.report.Report.{Report}
 use Rattle.feeds.specs.declared.report.WorkerEnd.TheVariants.{Done}
 use Rattle.feeds.specs.declared.serving.Served.{Served}
@@ -16,7 +16,7 @@ module _ (lets shuts heard : ℕ → ℕ → Type 0) where
   abbrev pub ServesThrough : List (List ℕ) → List (List EventValue) → List (List Query) → Served
       → Type 0
   ServesThrough feeds peers asks s =
-      (p : Shown) × (q : Shown) × Serves lets shuts heard p q feeds peers asks s
+      (p : ShownPass) × (q : ShownPass) × ServesJobs lets shuts heard p q feeds peers asks s
 
   -- and all feeds and peers were done
   abbrev pub DoneThrough : List (List ℕ) → List (List EventValue) → List (List Query) → Type 0

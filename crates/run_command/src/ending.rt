@@ -9,12 +9,13 @@ ghost use Rattle.inbox_table.specs.Calls.{IsSettled};
 ghost use Rattle.keeper.specs.Keep.{Grows, KeepsUp};
 ghost use Rattle.run_command.specs.Ending.{KeepsRest, workers_of};
 ghost use Rattle.run_command.specs.Fault.{IsRunFault};
-ghost use Rattle.run_command.specs.Outcome.{HasRun, MayRun, RunsTo, Tells, fault_of, reports_in};
+ghost use Rattle.run_command.specs.Outcome.{HasRun, MayRun, RunsTo, TellsRun, fault_of_run, reports_if_served};
 ghost use Rattle.run_command.specs.Run.{IsFeedFault, IsRun, IsRunText, RunsInto, SaysRun};
 ghost use Rattle.run_command.specs.Tally.{read_in, refused_in};
 ghost use Rattle.run_command.specs.Through.{DoneThrough, IsToldOfRest};
 ghost use Rattle.databases.specs.declared.fault.CommandFault.TheVariants.{OutOfMemory};
 ghost use Rattle.run_command.specs.declared.fault.RunFault.TheVariants.{Database};
+ghost use Rattle.databases.specs.Done.{SettledIfDone};
 
 use crate::fault::{RunFault, of_keep, of_serve};
 use crate::shared::{Closed, share};
@@ -72,8 +73,7 @@ pub fn run<R: Threads + Wait + Sync, S: Alter + Drop, G: Gate + Sync, W: Watch>(
         result.stopped result.outcome }
     ensures ran { HasCleanDisk (state S.Store result.conn) → IfOk result.outcome (RunsInto
         jobs.feeds jobs.peers (state S.Store conn).now (state S.Store result.conn).now) }
-    ensures settled { HasCleanDisk (state S.Store result.conn)
-        → OnOk result.outcome (IsSettled (state S.Store result.conn)) }
+    ensures settled { SettledIfDone (state S.Store result.conn) result.outcome }
     ensures said { IfOk result.outcome (λ text.
         (arrivals : List EventValue) × SaysRun jobs.feeds arrivals text) }
     ensures feed { IfErr result.outcome (IsFeedFault jobs.feeds) }
@@ -117,8 +117,7 @@ fn run_table<R: Threads + Wait + Sync, S: Alter + Drop, G: Gate + Sync, W: Watch
         (state S.Store result.conn) result.stopped result.outcome }
     ensures ran { HasCleanDisk (state S.Store result.conn) → IfOk result.outcome (IsRun jobs.feeds
         jobs.peers (append_new key_cmp [] events) (state S.Store result.conn).now) }
-    ensures settled { HasCleanDisk (state S.Store result.conn)
-        → OnOk result.outcome (IsSettled (state S.Store result.conn)) }
+    ensures settled { SettledIfDone (state S.Store result.conn) result.outcome }
     ensures said { IfOk result.outcome (λ text.
         (arrivals : List EventValue) × SaysRun jobs.feeds arrivals text) }
     ensures feed { IfErr result.outcome (IsFeedFault jobs.feeds) }
@@ -168,8 +167,8 @@ fn ended<S: Alter + Drop, W: Watch>(
     ensures kept { (rows : ℕ) × KeepsRest (λ conn. state S.Store conn) closed.keeper
         record { conn = result.conn; rows = rows } closed.site closed.served closed.stopped
         result.stopped }
-    ensures told { Tells feeds (reports_in (workers_of closed.served)) closed.site
-        (fault_of feeds (workers_of closed.served) result.stopped) result.outcome }
+    ensures told { TellsRun feeds (reports_if_served (workers_of closed.served)) closed.site
+        (fault_of_run feeds (workers_of closed.served) result.stopped) result.outcome }
     ensures watched { IsOk closed.served → closed.stopped ≡ None → result.stopped ≡ None
         → IsToldOfRest (W.told watch.now) closed.keeper.rows (length closed.site) }
 {
@@ -223,8 +222,8 @@ fn outcome_of(
     stopped: &Option<Stop>,
     feeds: u64,
 ) -> Result<Text, RunFault>
-    ensures { Tells feeds (reports_in (workers_of served.now)) site.now
-        (fault_of feeds (workers_of served.now) stopped.now) result }
+    ensures { TellsRun feeds (reports_if_served (workers_of served.now)) site.now
+        (fault_of_run feeds (workers_of served.now) stopped.now) result }
 {
     let reports = match served {
         Ok(served) => served.reports.as_slice(),

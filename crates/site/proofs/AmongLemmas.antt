@@ -16,7 +16,7 @@ use mathlib.Core.Bool.{true≢false}
 use Rattle.attributes.specs.Event.{EventValue, source_of}
 use Rattle.attributes.specs.Sequence.{number_of}
 use Rattle.block_digests.specs.Block.{block_of, is_in_block}
-use Rattle.block_digests.specs.Kept.{IsKeptOf, Kept, KeptBlock, places_at, places_from, places_of, position_of}
+use Rattle.block_digests.specs.Kept.{IsKeptOf, KeptBlocks, KeptBlock, places_at, places_from, places_of, position_of}
 use Rattle.block_digests.specs.Number.{has_number, is_number, is_numbered}
 use Rattle.block_digests.proofs.ListLemmas.{and_both, and_left, and_right, item_is, passes}
 use Rattle.coverage.specs.Digests.{is_wanted}
@@ -171,7 +171,7 @@ map_at (x ∷ xs) zero b h = let same : x ≡ b = cc in ap (λ y. Some y.places)
 map_at (x ∷ xs) (suc j) b h = map_at xs j b h
 
 -- a block with places is kept
-kept_at : (kept : Kept) (source : List ℕ) (k j p : ℕ) → slice_get (places_at kept source k) j ≡ Some p → (b : KeptBlock) × ((i : ℕ) × ((slice_get kept.blocks i ≡ Some b) × (b.places ≡ places_at kept source k)))
+kept_at : (kept : KeptBlocks) (source : List ℕ) (k j p : ℕ) → slice_get (places_at kept source k) j ≡ Some p → (b : KeptBlock) × ((i : ℕ) × ((slice_get kept.blocks i ≡ Some b) × (b.places ≡ places_at kept source k)))
 kept_at kept source k j p h = by (position_of kept.index source k) refl h
   where
     by : (o : Option ℕ) → position_of kept.index source k ≡ o → slice_get (option_map_or (λ b. b.places) (option_and_then (slice_get kept.blocks) o) []) j ≡ Some p
@@ -185,7 +185,7 @@ kept_at kept source k j p h = by (position_of kept.index source k) refl h
         at (Some b) f t = (b, (i, (f, sym (ap (λ o. option_map_or (λ b. b.places) (option_and_then (slice_get kept.blocks) o) []) g ∙ ap (λ o. option_map_or (λ b. b.places) o []) f))))
 
 -- all blocks are handled
-pub all_handled : SetLaws → (A : List EventValue) (peer own : Sources) (kept : Kept) (found : BTreeSet ℕ) → AreEvents A → IsKeptOf A kept → Tells (set_of A) peer own
+pub all_handled : SetLaws → (A : List EventValue) (peer own : Sources) (kept : KeptBlocks) (found : BTreeSet ℕ) → AreEvents A → IsKeptOf A kept → Tells (set_of A) peer own
     → AreHandled A peer own kept.blocks found (length kept.blocks) → AreAll (set_of A) peer found
 all_handled sets A peer own kept found are is tells done i e here lacks =
     let wants : is_wanting peer own e ≡ true = sym (tells e) ∙ lacks in

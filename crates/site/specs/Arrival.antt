@@ -1,5 +1,5 @@
 -- What comes to a site.
-pub use Rattle.block_digests.specs.Number.{AreNumbered}
+pub use Rattle.block_digests.specs.Number.{HaveEachNumber}
 use Rattle.std.specs.Prelude.{◌≡◌, ◌+◌, ℕ, List, [], false, length, take, Result, IfErr, IfOk, OnOk, Some, slice_get}
 use Rattle.attributes.specs.Event.{EventValue}
 use Rattle.inbox.specs.KeyOrder.{key_cmp}
@@ -9,8 +9,8 @@ use Rattle.inbox.specs.declared.inbox.Counts.{Counts}
 use Rattle.inbox.specs.declared.inbox.Short.{Short}
 
 -- the event at a place of the list L, where there is one, is not among the arrivals A
-abbrev pub LacksAt : List EventValue → List EventValue → ℕ → Type 0
-LacksAt A L i = (e : EventValue) → slice_get L i ≡ Some e → has key_cmp A e ≡ false
+abbrev pub LacksArrivalAt : List EventValue → List EventValue → ℕ → Type 0
+LacksArrivalAt A L i = (e : EventValue) → slice_get L i ≡ Some e → has key_cmp A e ≡ false
 
 -- each of the events is there once: whoever adds them to nothing, one by one, passes none over
 abbrev pub AreDistinct : List EventValue → Type 0

@@ -2,7 +2,7 @@
 -- source and number it doesn't hold, and those of the blocks of which it has another digest. One of
 -- version 1 has no digests: where two events of a source have one number, it can't tell them apart.
 pub use Rattle.coverage.specs.Digests.{delta, is_lacking, lacking_of}
-use Rattle.std.specs.Prelude.{◌≡◌, ◌+◌, ◌≤◌, ℕ, List, Bool, true, false, Some, drop, length, slice_get, take}
+use Rattle.std.specs.Prelude.{◌≡◌, ◌≢◌, ◌+◌, ◌≤◌, ℕ, List, [], Bool, true, false, Some, drop, length, slice_get, take}
 use Rattle.std.specs.BTreeSet.{BTreeSet, contains}
 use Rattle.std.specs.Option.{option_map_or}
 use Rattle.std.specs.Ordering.{nat_cmp}
@@ -27,10 +27,14 @@ AreAll E peer places = (i : ℕ) (e : EventValue) → slice_get E i ≡ Some e
 
 -- of the events of E from a place on, those that the peer lacks, `limit` of them at most, and the
 -- place to go on from
-pub record IsPart (E : List EventValue) (peer : Sources) (place limit : ℕ) (part : DeltaPart)
+pub record IsDeltaPart (E : List EventValue) (peer : Sources) (place limit : ℕ) (part : DeltaPart)
     : Type 0 where
   pub events : part.events ≡ take limit (lacking_of E peer (drop place E))
   pub rest : lacking_of E peer (drop part.next E)
       ≡ drop limit (lacking_of E peer (drop place E))
   pub within : part.next ≤ length E
   pub behind : place + length part.events ≤ part.next
+
+-- of the events of E from a place on, the peer lacks some of the next `limit`
+abbrev pub LacksSomeFrom : List EventValue → Sources → ℕ → ℕ → Type 0
+LacksSomeFrom E peer place limit = take limit (lacking_of E peer (drop place E)) ≢ []

@@ -7,7 +7,7 @@ use Rattle.inbox.specs.KeyOrder.{key_cmp}
 use Rattle.inbox.specs.Ordered.{append_new}
 use Rattle.inbox.specs.Sets.{set_of}
 use Rattle.views.specs.Question.{IsTrueOf, query_of}
-use Rattle.site.specs.Arrival.{AreDistinct, AreNumbered}
+use Rattle.site.specs.Arrival.{AreDistinct, HaveEachNumber}
 use Rattle.site.specs.Delta.{delta}
 use Rattle.site.specs.Page.{page}
 use Rattle.site.specs.declared.call.Call.{Call}
@@ -48,17 +48,17 @@ IsReply A _ (Refused taken fresh) = (taken ≡ 0) × (fresh ≡ 0)
 IsReply A _ _ = ⊥
 
 -- the reply of the call is one that its command has where these are the arrivals
-abbrev pub Answers : List EventValue → Call → Type 0
-Answers A c = IsReply A c.command c.reply
+abbrev pub HasRightReply : List EventValue → Call → Type 0
+HasRightReply A c = IsReply A c.command c.reply
 
 -- the calls, one after another, lead from these arrivals to those
 abbrev pub Runs : List EventValue → List Call → List EventValue → Type 0
 Runs A [] B = B ≡ A
-Runs A (c ∷ cs) B = Answers A c × Runs (arrivals_after A c) cs B
+Runs A (c ∷ cs) B = HasRightReply A c × Runs (arrivals_after A c) cs B
 
 -- others added to the arrivals, and then came the call; what is there now are events with numbers,
 -- each once, so nobody added one that was there
 abbrev pub Follows : List EventValue → Call → List EventValue → Type 0
 Follows A c B =
-    (others : List EventValue) × Answers (A ++ others) c × (B ≡ arrivals_after (A ++ others) c)
-    × AreDistinct B × AreNumbered B
+    (others : List EventValue) × HasRightReply (A ++ others) c × (B ≡ arrivals_after (A ++ others) c)
+    × AreDistinct B × HaveEachNumber B

@@ -2,7 +2,7 @@
 
 ghost use Rattle.std.specs.Prelude.{◌≡◌, ◌<◌, [], length, slice_get, Some};
 ghost use Rattle.inbox.specs.Sets.{AreEvents, set_of};
-ghost use Rattle.site.specs.Arrival.{AreDistinct, AreNumbered};
+ghost use Rattle.site.specs.Arrival.{AreDistinct, HaveEachNumber};
 
 mod among;
 mod delta;
@@ -50,9 +50,9 @@ impl Model for Site {
     ghost use Rattle.attributes.specs.Event.{EventValue};
     ghost use Rattle.block_digests.specs.Kept.{IsKeptOf};
     ghost use Rattle.coverage.specs.Summary.{version_of};
-    ghost use Rattle.kept_views.specs.Tables.{StandsFor};
+    ghost use Rattle.kept_views.specs.Tables.{AreTablesOfShown};
     ghost use Rattle.views.specs.Number.{HasNumbers};
-    ghost use Rattle.site.specs.Arrival.{AreDistinct, AreNumbered};
+    ghost use Rattle.site.specs.Arrival.{AreDistinct, HaveEachNumber};
     ghost use Rattle.site.specs.steps.Mark.{IsMark};
 
     ghost Value = { List EventValue };
@@ -62,9 +62,9 @@ impl Model for Site {
     ghost view = { λ s. s.inbox.arrivals };
 
     ghost invariant = { λ s. HasNumbers s.inbox.arrivals s.summary
-        × AreNumbered s.inbox.arrivals × AreDistinct s.inbox.arrivals
+        × HaveEachNumber s.inbox.arrivals × AreDistinct s.inbox.arrivals
         × (version_of s.summary ≡ 1) × IsKeptOf s.inbox.arrivals s.blocks
-        × IfSome s.views (λ v. StandsFor s.inbox.arrivals v.value)
+        × IfSome s.views (λ v. AreTablesOfShown s.inbox.arrivals v.value)
         × IfSome s.mark (λ m. IsMark s.inbox.arrivals m.value.peer m.value.own m.value.among
         m.value.from m.value.place) };
 }
@@ -88,7 +88,7 @@ impl Site {
     pub fn arrived(&self) -> u64
         ensures count { result ≡ length self.now }
         ensures events { AreEvents self.now }
-        ensures numbered { AreNumbered self.now }
+        ensures numbered { HaveEachNumber self.now }
         ensures distinct { AreDistinct self.now }
     {
         self.inbox.arrived()

@@ -1,7 +1,7 @@
 //! The calls of `library_calls`, each under its own name and contract: the exports are proved step
 //! by step, and such a proof can rest only on functions of its own crate.
 
-ghost use Rattle.library_calls.specs.Calls.{Asked, Checked, HasRead, IsEmpty, Lacked, Paged, Summed, Took, Viewed};
+ghost use Rattle.library_calls.specs.Calls.{Asked, Checked, HasReadPiece, IsEmpty, Lacked, Paged, Summed, Took, Viewed};
 ghost use Rattle.library_calls.specs.FileSets.{ComparedFile, CopiedFile, FoundFile, NamedFile, PartLackedFile};
 ghost use Rattle.library_calls.specs.Files.{Answered, HasReadFile, LetsGo, OpenedFile, Told, TookFile};
 ghost use Rattle.library_calls.specs.Numbers.{HasReadNumbers, LetsGoNumbers, Numbered, OpenedNumbers};
@@ -129,7 +129,7 @@ pub(crate) fn site_combine(
 }
 
 pub(crate) fn site_read(held: Held, piece: u32, out: &mut Piece) -> Held
-    ensures { HasRead piece held result out.old out.new }
+    ensures { HasReadPiece piece held result out.old out.new }
 {
     library_calls::site_read(held, piece, out)
 }

@@ -5,13 +5,13 @@ ghost use Rattle.std.specs.Borrow.{full_share, sem};
 ghost use Rattle.std.specs.Mem.{type_size};
 ghost use Rattle.std.specs.Prelude.{◌≡◌};
 ghost use Rattle.std.specs.Ptr.{lies_at, room_at};
-ghost use Rattle.library_calls.specs.Calls.{Asked, Checked, HasRead, IsEmpty, Lacked, Paged, Summed, Took, Viewed};
+ghost use Rattle.library_calls.specs.Calls.{Asked, Checked, HasReadPiece, IsEmpty, Lacked, Paged, Summed, Took, Viewed};
 ghost use Rattle.library_calls.specs.FileSets.{ComparedFile, CopiedFile, FoundFile, NamedFile, PartLackedFile};
 ghost use Rattle.library_calls.specs.Files.{Answered, HasReadFile, LetsGo, OpenedFile, Told, TookFile};
 ghost use Rattle.library_calls.specs.Numbers.{HasReadNumbers, LetsGoNumbers, Numbered, OpenedNumbers};
 ghost use Rattle.library_calls.specs.Offers.{HasAnswer, KeptOffers, Offered};
 ghost use Rattle.library_calls.specs.Outboxes.{HasReadOutbox, LetsGoOutbox, OpenedOutbox, OrderedOutbox, ShownOutbox};
-ghost use Rattle.library_calls.specs.Parts.{Combined, Split, TellsPart};
+ghost use Rattle.library_calls.specs.Parts.{Combined, Split, TellsSourcePart};
 ghost use Rattle.library_calls.specs.Sets.{Compared, Copied, Found, Named, PartLacked, Tested};
 ghost use Rattle.library_calls.specs.contracts.file_held.FileHeld.{the_row as file_row};
 ghost use Rattle.library_calls.specs.contracts.held.Held.{the_row};
@@ -289,7 +289,7 @@ pub unsafe extern "C" fn jumbetai_site_combine(
 /// Tells the part that a source falls to, of so many.
 #[unsafe(no_mangle)]
 pub extern "C" fn jumbetai_source_part(source: &[u8], parts: u64, part: &mut u64) -> u32
-    ensures { TellsPart source.now parts result part.new }
+    ensures { TellsSourcePart source.now parts result part.new }
 {
     source_part(source, parts, part)
 }
@@ -300,7 +300,7 @@ pub unsafe extern "C" fn jumbetai_site_read(at: *mut u8, piece: u32, out: &mut P
     ghost held: { Held }
     requires* { sem 𝓛 (lies_at the_row full_share at held) }
     ensures* { ∃ₛ λ kept. sem 𝓛 (lies_at the_row full_share at kept)
-        ∗ ⌜ HasRead piece held kept out.old out.new ⌝ }
+        ∗ ⌜ HasReadPiece piece held kept out.old out.new ⌝ }
 {
     let to = at as *mut Held;
     std::ptr::write(to, calls::site_read(std::ptr::read(to), piece, out));

@@ -4,11 +4,11 @@ use Rattle.std.specs.Prelude.{Option, Some, slice_get}
 use Rattle.std.proofs.lemmas.List.{length-map}
 use Rattle.std.proofs.lemmas.List.{take_more}
 use Rattle.std.proofs.lemmas.Option.{get_or_from_slice_get, slice_get_within}
-use Rattle.file_reports.specs.Shelves.{AreContents}
+use Rattle.event_files.specs.Shelves.{AreContents}
 use Rattle.command_words.specs.declared.request.Check.{Check}
 use Rattle.site_commands.specs.Checks.{AreFaultsOf, FindsNone, FindsSome, IsFaultOf, TellsFaults, TellsGiven, piece_names}
 use Rattle.site_commands.specs.Lines.{line_names}
-use Rattle.site_commands.specs.Pieces.{ArePieces, file_lines, places_in, places_of}
+use Rattle.site_commands.specs.Pieces.{ArePieces, file_lines, places_in, places_of_lines}
 use Rattle.site_commands.specs.declared.pieces.LineAt.{LineAt}
 use Rattle.site_commands.specs.steps.Checks.{FindsIn}
 
@@ -78,7 +78,7 @@ pub one_name_each : (C : List ℕ → List ℕ → Type 0) (has_lines : Bool) (f
 one_name_each C false files texts places p = ap (λ (l : List (List ℕ)). length l) p.cut ∙ AreContents-length C files p.contents p.read
 one_name_each C true files texts places p =
     ap (λ (l : List (List ℕ)). length l) p.cut ∙ length-map (file_lines p.contents) _
-    ∙ sym (ap (λ (l : List LineAt). length (line_names files l)) p.stand ∙ length-map (places_of (file_lines p.contents)) _ ∙ length-map (file_lines p.contents) _)
+    ∙ sym (ap (λ (l : List LineAt). length (line_names files l)) p.stand ∙ length-map (places_of_lines (file_lines p.contents)) _ ∙ length-map (file_lines p.contents) _)
 
 -- a text is empty where its length is found to be 0, and else isn't
 pub empty_is : (text : List ℕ) → (length text == 0) ≡ true → text ≡ []

@@ -3,9 +3,9 @@ use Rattle.std.proofs.Common.{◌≡◌, ◌∙◌, ℕ, Bool, List, Some, ap, i
 use Rattle.std.specs.Prelude.{if◌then◌else◌}
 use Rattle.std.specs.Str.{IsUtf8}
 use Rattle.command_words.specs.declared.request.Combine.{Combine}
-use Rattle.file_reports.specs.Shelves.{AreContents, IsUnreadAt}
-use Rattle.file_reports.specs.declared.input.Unread.{Unread}
-use Rattle.file_reports.specs.declared.shelf.UnreadAt.{UnreadAt}
+use Rattle.event_files.specs.Shelves.{AreContents, IsUnreadAt}
+use Rattle.event_files.specs.declared.input.Unread.{Unread}
+use Rattle.event_files.specs.declared.shelf.UnreadAt.{UnreadAt}
 use Rattle.site_commands.specs.Lines.{name_at, unread_line}
 use Rattle.parts.specs.declared.fault.CombineFault.{CombineFault}
 use Rattle.views.specs.declared.query.Query.{Query}

@@ -1,7 +1,7 @@
 -- The lines of files as batches, one more at a time.
 use Rattle.std.proofs.Common.{◌≡◌, ◌+◌, arith, length, ℕ, suc, Bool, false, true, List, [], ◌∷◌, ◌++◌, inl, inr, refl, sym, ap, subst, ◌∙◌, append_assoc}
 use Rattle.attributes.specs.Event.{EventValue}
-use Rattle.site_commands.specs.Jobs.{AreBatches, AreFeeds, IsBatchOf, IsFeedFault, IsFirstUnread, SpellLines}
+use Rattle.site_commands.specs.Jobs.{AreBatches, AreFeeds, IsBatchOf, IsLineFeedFault, IsFirstUnreadLine, SpellLines}
 use Rattle.site_commands.specs.Pieces.{FileLine, line_at, lines_behind, lines_from, lines_of}
 use Rattle.site_commands.specs.declared.batches.FeedFault.{FeedFault}
 use Rattle.site_commands.specs.declared.batches.FeedFault.TheVariants as feed
@@ -14,12 +14,12 @@ spell_append (x ∷ xs) ys a b h k =
     (h.0, h.1 ++ b, h.2, spell_append xs ys h.1 b h.3 k, ap (λ l. l ++ b) h.4 ∙ append_assoc h.0 h.1 b)
 
 -- the first at fault behind lines that spell events
-pub first_append : (xs ys : List FileLine) (a : List EventValue) (r : RefusedLine) → SpellLines xs a → IsFirstUnread ys r → IsFirstUnread (xs ++ ys) r
+pub first_append : (xs ys : List FileLine) (a : List EventValue) (r : RefusedLine) → SpellLines xs a → IsFirstUnreadLine ys r → IsFirstUnreadLine (xs ++ ys) r
 first_append [] ys a r h k = k
 first_append (x ∷ xs) ys a r h k = inr ((h.0, h.2), first_append xs ys h.1 r h.3 k)
 
 -- the first at fault, before other lines
-pub first_front : (xs ys : List FileLine) (r : RefusedLine) → IsFirstUnread xs r → IsFirstUnread (xs ++ ys) r
+pub first_front : (xs ys : List FileLine) (r : RefusedLine) → IsFirstUnreadLine xs r → IsFirstUnreadLine (xs ++ ys) r
 first_front [] ys r h = absurd h
 first_front (x ∷ xs) ys r h = elim h [ inl own ↦ inl own | inr more ↦ inr (more.0, first_front xs ys r more.1) ]
 
@@ -39,14 +39,14 @@ module _ (file before after : ℕ) (line : List ℕ) (lines later : List (List �
 
   -- a line at fault behind it
   pub first_next : (own : List EventValue) → SpellLines (line_at file before line) own
-      → ((r : RefusedLine) → IsFirstUnread (lines_from file before lines) r → IsFirstUnread all r)
-      → (r : RefusedLine) → IsFirstUnread (lines_from file after later) r → IsFirstUnread all r
-  first_next own h go r k = go r (subst (λ (l : List FileLine). IsFirstUnread l r) (sym here) (first_append (line_at file before line) (lines_from file after later) own r h k))
+      → ((r : RefusedLine) → IsFirstUnreadLine (lines_from file before lines) r → IsFirstUnreadLine all r)
+      → (r : RefusedLine) → IsFirstUnreadLine (lines_from file after later) r → IsFirstUnreadLine all r
+  first_next own h go r k = go r (subst (λ (l : List FileLine). IsFirstUnreadLine l r) (sym here) (first_append (line_at file before line) (lines_from file after later) own r h k))
 
   -- it is at fault itself
-  pub first_here : ((r : RefusedLine) → IsFirstUnread (lines_from file before lines) r → IsFirstUnread all r)
-      → (r : RefusedLine) → IsFirstUnread (line_at file before line) r → IsFirstUnread all r
-  first_here go r h = go r (subst (λ (l : List FileLine). IsFirstUnread l r) (sym here) (first_front (line_at file before line) (lines_from file after later) r h))
+  pub first_here : ((r : RefusedLine) → IsFirstUnreadLine (lines_from file before lines) r → IsFirstUnreadLine all r)
+      → (r : RefusedLine) → IsFirstUnreadLine (line_at file before line) r → IsFirstUnreadLine all r
+  first_here go r h = go r (subst (λ (l : List FileLine). IsFirstUnreadLine l r) (sym here) (first_front (line_at file before line) (lines_from file after later) r h))
 
 -- ---- a loop over files
 
@@ -69,19 +69,19 @@ module _ (first file after : ℕ) (bytes : List ℕ) (left later contents : List
 
   -- a line at fault in a later file
   pub file_next : (batch : List ℕ) → IsBatchOf file bytes batch
-      → ((r : RefusedLine) → IsFirstUnread (lines_behind file left) r → IsFirstUnread (lines_behind first contents) r)
-      → (r : RefusedLine) → IsFirstUnread (lines_behind after later) r → IsFirstUnread (lines_behind first contents) r
-  file_next batch h go r k = go r (subst (λ (l : List FileLine). IsFirstUnread l r) (sym left_is) (first_append (lines_from file 0 (lines_of bytes)) (lines_behind after later) h.0 r h.1 k))
+      → ((r : RefusedLine) → IsFirstUnreadLine (lines_behind file left) r → IsFirstUnreadLine (lines_behind first contents) r)
+      → (r : RefusedLine) → IsFirstUnreadLine (lines_behind after later) r → IsFirstUnreadLine (lines_behind first contents) r
+  file_next batch h go r k = go r (subst (λ (l : List FileLine). IsFirstUnreadLine l r) (sym left_is) (first_append (lines_from file 0 (lines_of bytes)) (lines_behind after later) h.0 r h.1 k))
 
   -- a line of this file is at fault
-  pub file_here : ((r : RefusedLine) → IsFirstUnread (lines_behind file left) r → IsFirstUnread (lines_behind first contents) r)
-      → (r : RefusedLine) → IsFirstUnread (lines_from file 0 (lines_of bytes)) r → IsFirstUnread (lines_behind first contents) r
-  file_here go r h = go r (subst (λ (l : List FileLine). IsFirstUnread l r) (sym left_is) (first_front (lines_from file 0 (lines_of bytes)) (lines_behind after later) r h))
+  pub file_here : ((r : RefusedLine) → IsFirstUnreadLine (lines_behind file left) r → IsFirstUnreadLine (lines_behind first contents) r)
+      → (r : RefusedLine) → IsFirstUnreadLine (lines_from file 0 (lines_of bytes)) r → IsFirstUnreadLine (lines_behind first contents) r
+  file_here go r h = go r (subst (λ (l : List FileLine). IsFirstUnreadLine l r) (sym left_is) (first_front (lines_from file 0 (lines_of bytes)) (lines_behind after later) r h))
 
   -- so none of the files has a batch
-  pub file_fault : (fault : FeedFault) → IsFeedFault (lines_from file 0 (lines_of bytes)) fault
-      → ((r : RefusedLine) → IsFirstUnread (lines_behind file left) r → IsFirstUnread (lines_behind first contents) r)
-      → IsFeedFault (lines_behind first contents) fault
+  pub file_fault : (fault : FeedFault) → IsLineFeedFault (lines_from file 0 (lines_of bytes)) fault
+      → ((r : RefusedLine) → IsFirstUnreadLine (lines_behind file left) r → IsFirstUnreadLine (lines_behind first contents) r)
+      → IsLineFeedFault (lines_behind first contents) fault
   file_fault feed.OutOfMemory h go = tt
   file_fault (feed.Line r) h go = file_here go r h
 

@@ -4,11 +4,11 @@ use Rattle.std.specs.Result.{IfErr}
 use Rattle.std.specs.Io.KnownBytes.{IsAtEnd}
 use Rattle.attributes.specs.Event.{EventValue}
 use Rattle.command_words.specs.declared.request.Number.{Number}
-use Rattle.file_reports.specs.declared.input.Unread.{Unread}
+use Rattle.event_files.specs.declared.input.Unread.{Unread}
 use Rattle.number_table.specs.Each.{AreNumberedEach}
 use Rattle.number_table.specs.declared.fault.NumbererFault.{NumbererFault}
 use Rattle.number_table.specs.declared.fault.NumbererFault.TheVariants.{OutOfMemory, HasSequence, TooLarge, Full, Store, Foreign}
-use Rattle.number_lines.specs.Numbering.{AreNumbered, NumbersAll, NumbersPart, NumbersSome, NumbersUntil}
+use Rattle.number_lines.specs.Numbering.{AreLinesNumbered, NumbersAll, NumbersRest, NumbersSome, NumbersUntil}
 use Rattle.number_lines.specs.Over.{EndsSome}
 use Rattle.number_lines.specs.declared.named.NumberEnd.{NumberEnd}
 use Rattle.number_lines.specs.declared.named.NumberEnd.TheVariants as number
@@ -18,14 +18,14 @@ use Rattle.site_commands.specs.Endings.{EndsNumbers, SaysRefusal}
 use Rattle.site_commands.specs.Inputs.{MayGive}
 use Rattle.site_commands.specs.Names.{Names, of_number}
 use Rattle.site_commands.specs.Numbers.{EndsNumbering, NumbersFile, NumbersFront, NumbersUnsaid, RefusesNumbers, number_end, refusal_of}
-use Rattle.site_commands.specs.Streams.{end_of}
+use Rattle.site_commands.specs.Streams.{end_of_stream}
 use Rattle.site_commands.specs.declared.line.Refusal.{Refusal}
 use Rattle.site_commands.specs.declared.stream.StreamEnd.{StreamEnd}
 use Rattle.site_commands.proofs.StreamLemmas.{ended, plain_lines, some_of, taken_anew}
 
 module _ (C : List ℕ → List ℕ → Type 0) (U : List ℕ → Unread → Type 0) (f : Number) (known out out' err err' : Option (List ℕ)) (of : (bytes : List ℕ) → MayGive known bytes → C f.file bytes) where
   abbrev Are : Option (List ℕ) → Option (List ℕ) → List Told → List (List EventValue) → Type 0
-  Are input left tells answers = AreNumbered f.aside AreNumberedEach input left tells answers
+  Are input left tells answers = AreLinesNumbered f.aside AreNumberedEach input left tells answers
 
   -- what is numbered of an input is numbered of bytes that it may give
   certain : (known : Option (List ℕ)) → ((bytes : List ℕ) → MayGive known bytes → C f.file bytes) → (left : Option (List ℕ)) (tells : List Told) (answers : List (List EventValue)) → Are known left tells answers
@@ -53,14 +53,14 @@ module _ (C : List ℕ → List ℕ → Type 0) (U : List ℕ → Unread → Typ
     some = record { left = it.2; tells = t.tells; answers = t.answers; are = it.3; written = t.written; said = t.said };
   })
 
-  unsaid : NumbersPart f.aside AreNumberedEach known out out' err err' → NumbersUnsaid C f out out' err err'
+  unsaid : NumbersRest f.aside AreNumberedEach known out out' err err' → NumbersUnsaid C f out out' err err'
   unsaid t = (let it = certain known of t.left t.tells t.answers t.are in record {
     bytes = it.0;
     of_file = it.1;
     part = record { left = it.2; tells = t.tells; answers = t.answers; are = it.3; rest = t.rest; written = t.written; unsaid = t.unsaid; said = t.said };
   })
 
-  ends_all : (faults : ℕ) → NumbersAll f.aside AreNumberedEach faults known out out' err err' → EndsNumbering C U f (end_of faults) out out' err err'
+  ends_all : (faults : ℕ) → NumbersAll f.aside AreNumberedEach faults known out out' err err' → EndsNumbering C U f (end_of_stream faults) out out' err err'
   ends_all zero told = file zero told
   ends_all (suc n) told = (some_of n, file (suc n) told)
 

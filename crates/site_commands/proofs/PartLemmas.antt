@@ -2,12 +2,12 @@
 use Rattle.std.proofs.Common.{◌≡◌, ◌<◌, ◌+◌, ◌++◌, ◌∷◌, [], ℕ, Bool, true, false, List, Some, None, ap, length, slice_get, take, ◌∙◌}
 use Rattle.std.proofs.lemmas.List.{map_more}
 use Rattle.std.proofs.lemmas.Option.{get_or_from_slice_get}
-use Rattle.file_reports.specs.Shelves.{AreContents}
-use Rattle.file_reports.specs.declared.input.Unread.{Unread}
+use Rattle.event_files.specs.Shelves.{AreContents}
+use Rattle.event_files.specs.declared.input.Unread.{Unread}
 use Rattle.parts.specs.Part.{part_of}
 use Rattle.site_commands.specs.Answers.{RefusesQuery}
 use Rattle.site_commands.specs.Parts.{placed}
-use Rattle.site_commands.specs.Pieces.{IsRefused}
+use Rattle.site_commands.specs.Pieces.{IsInputRefused}
 use Rattle.site_commands.specs.declared.line.Refusal.{Refusal}
 use Rattle.site_commands.specs.declared.line.Refusal.TheVariants as refusal
 
@@ -20,7 +20,7 @@ placed_more count sources i source below at =
 
 -- of what was read there is no answer for want of memory alone
 pub memory_refused : (C : List ℕ → List ℕ → Type 0) (U : List ℕ → Unread → Type 0) (has_lines : Bool) (files contents : List (List ℕ)) (why : Refusal)
-    → AreContents C files contents → IsRefused has_lines contents why → RefusesQuery C U has_lines None files why
+    → AreContents C files contents → IsInputRefused has_lines contents why → RefusesQuery C U has_lines None files why
 memory_refused C U false files contents (refusal.Unread at) read h = absurd h
 memory_refused C U true files contents (refusal.Unread at) read h = absurd h
 memory_refused C U has_lines files contents (refusal.File refused) read h = (contents, read, h)

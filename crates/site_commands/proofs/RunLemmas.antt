@@ -3,17 +3,17 @@ use Rattle.std.proofs.Common.{◌≡◌, ◌≤◌, ◌<◌, ℕ, Bool, List, in
 use Rattle.std.specs.Prelude.{IfSome, None, Option, Some, length}
 use Rattle.attributes.specs.Sequence.{max_sequence}
 use Rattle.std.specs.Option.{is_some}
-use Rattle.command_words.specs.Plans.{AreFaulty, AreFew, Blames, IsBase, IsPart}
+use Rattle.command_words.specs.Plans.{AreFaulty, AreFew, Blames, IsBase, IsPartWritten}
 use Rattle.command_words.specs.declared.fault.Faulty.{Faulty as FaultyWords}
 use Rattle.command_words.specs.declared.fault.Faulty.TheVariants as faulty
-use Rattle.file_reports.specs.declared.input.Unread.{Unread}
+use Rattle.event_files.specs.declared.input.Unread.{Unread}
 use Rattle.site_commands.specs.Endings.{Ends, EndsNumbers, EndsStream, SaysRefusal, Writes}
 use Rattle.site_commands.specs.Lines.{line_of, made_lines, memory_line}
-use Rattle.site_commands.specs.Names.{Names, of_follow, of_number, of_plan}
+use Rattle.site_commands.specs.Names.{Names, names_of_follow, of_number, of_plan}
 use Rattle.site_commands.specs.Checks.{IsCheckEnding}
 use Rattle.site_commands.specs.Parts.{IsCombineEnding}
-use Rattle.site_commands.specs.Runs.{ComesTo, IsEnding, IsLine, IsSplitEnding, IsTold, PrintsAnswer, RunsAlone, RunsBeside, RunsPlan, RunsWords, said}
-use Rattle.site_commands.specs.Answers.{AnswersPlan, IsAllowed, IsAllowedAlone, IsAllowedPlan, RefusesPlan}
+use Rattle.site_commands.specs.Runs.{ComesTo, IsEnding, IsLine, IsSplitEnding, IsToldBeside, PrintsAnswer, RunsAlone, RunsBeside, RunsPlan, RunsWords, said}
+use Rattle.site_commands.specs.Answers.{AnswersPlan, IsAllowedOnce, IsAllowedAlone, IsAllowedPlan, RefusesPlan}
 use Rattle.site_commands.specs.declared.ending.Ending.{Ending}
 use Rattle.site_commands.specs.declared.ending.Ending.TheVariants.{Answer, Told, Pages, Findings, Help, Faulty, Refused, Uncombined, Unsaved, NoMemory}
 use Rattle.databases.specs.Pages.{pages_text}
@@ -117,7 +117,7 @@ module _ (C : List ℕ → List ℕ → Type 0) (U : List ℕ → Unread → Typ
 
   follow_within : (f : Follow) → EndsStream C U f r out out' err err' → r ≤ 2
   follow_within f (inl w) = omega (arith, w.0)
-  follow_within f (inr (inl w)) = said_within r err err' (of_follow f) w.0 w.2
+  follow_within f (inr (inl w)) = said_within r err err' (names_of_follow f) w.0 w.2
   follow_within f (inr (inr w)) = omega (arith, w.0)
 
   follow_printed : (f : Follow) → IsPlan words (plan.Alone (alone.Follow f)) → EndsStream C U f r out out' err err' → r ≡ 0 → PrintsAnswer C words out out'
@@ -131,12 +131,12 @@ module _ (C : List ℕ → List ℕ → Type 0) (U : List ℕ → Unread → Typ
         },
         all.written,
       )
-  follow_printed f p (inr (inl w)) done = said_never r err err' (of_follow f) w.0 0 _ w.2 (λ e. omega arith) done
+  follow_printed f p (inr (inl w)) done = said_never r err err' (names_of_follow f) w.0 0 _ w.2 (λ e. omega arith) done
   follow_printed f p (inr (inr w)) done = absurd (omega (arith, w.0, done))
 
   follow_faulty : (f : Follow) → EndsStream C U f r out out' err err' → r ≡ 2 → AreFaulty words
   follow_faulty f (inl w) done = absurd (omega (arith, w.0, done))
-  follow_faulty f (inr (inl w)) done = said_never r err err' (of_follow f) w.0 2 _ w.2 (λ e. omega arith) done
+  follow_faulty f (inr (inl w)) done = said_never r err err' (names_of_follow f) w.0 2 _ w.2 (λ e. omega arith) done
   follow_faulty f (inr (inr w)) done = absurd (omega (arith, w.0, done))
 
   -- ---- runs
@@ -176,7 +176,7 @@ named_ending A R m n refusal e is r line = subst (λ z. ComesTo A R z e) is (ref
 
 -- an answer with the lines of what was made for it is the plan's ending
 pub told_ending : (A : List ℕ → Type 0) (R : Refusal → Type 0) (n m : Names) (file service : Bool) (text : List ℕ) (e : Ending)
-    → m ≡ n → A text → IsTold m.db file service text e → ComesTo A R n e
+    → m ≡ n → A text → IsToldBeside m.db file service text e → ComesTo A R n e
 told_ending A R n m file service text (Answer printed) is a it = subst A (sym it.0) a
 told_ending A R n m file service text (Told printed made) is a it = (subst A (sym it.0) a, (file, service, it.1 ∙ ap (λ (z : Names). made_lines file service z.db) is))
 told_ending A R n m file service text (Pages events) is a it = absurd it
@@ -290,14 +290,14 @@ base_low (Some text) None h = tt
 base_low None (Some n) h = absurd h
 
 -- a part that the words wrote is below their count
-part_below : (text : Option (List ℕ)) (count : ℕ) (place : Option ℕ) → IsPart text count place → IfSome place (λ i. i < count)
+part_below : (text : Option (List ℕ)) (count : ℕ) (place : Option ℕ) → IsPartWritten text count place → IfSome place (λ i. i < count)
 part_below (Some text) count (Some i) h = h.below
 part_below None count None h = tt
 part_below (Some text) count None h = tt
 part_below None count (Some i) h = absurd h
 
 -- what the words ask for is within what is allowed
-once_allowed : (words : List (List ℕ)) (o : Once) → IsPlan words (plan.Alone (alone.Once o)) → IsAllowed o
+once_allowed : (words : List (List ℕ)) (o : Once) → IsPlan words (plan.Alone (alone.Once o)) → IsAllowedOnce o
 once_allowed words (once.Ask query db files has_lines) h = tt
 once_allowed words (once.Summary db) h = tt
 once_allowed words (once.Take db files has_lines) h = tt

@@ -11,7 +11,7 @@ use Rattle.site_commands.specs.declared.ending.Ending.{Ending}
 use Rattle.site_commands.specs.declared.ending.Ending.TheVariants.{Answer, Told, Pages, Findings, Help, Faulty, Refused, Uncombined, Unsaved, NoMemory}
 use Rattle.site_commands.specs.declared.split.SplitFault.{SplitFault}
 use Rattle.site_commands.specs.declared.split.SplitFault.TheVariants as fault
-use Rattle.site_commands.specs.steps.Splits.{ArePartsOf, IsUnsavedEnding, RefusesFile, StopsParts}
+use Rattle.site_commands.specs.steps.Splits.{AreAllParts, IsUnsavedEnding, RefusesFile, StopsParts}
 
 -- ---- outputs
 
@@ -28,13 +28,13 @@ grew_on (Some l) (Some m) (Some n) x y h k = k ∙ ap (λ (z : List Output). z +
 -- ---- parts
 
 -- the events of a part, where these are all parts
-is_part : (asked : Split) (events : List EventValue) (parts : List (List EventValue)) (i : ℕ) (p : List EventValue) → ArePartsOf asked.count events parts
+is_part : (asked : Split) (events : List EventValue) (parts : List (List EventValue)) (i : ℕ) (p : List EventValue) → AreAllParts asked.count events parts
     → i < length parts → p ≡ get_or parts i p → p ≡ part (part_of asked.count) i events
 is_part asked events parts i p are below at = at ∙ get_or_from_slice_get parts i _ p (are.each i (subst (λ (n : ℕ). i < n) are.len below))
 
 -- a part more is counted
 pub count_more : (asked : Split) (events : List EventValue) (parts : List (List EventValue)) (i : ℕ) (p : List EventValue) (rows : List (List ℕ × ℕ)) (name : List ℕ) (n : ℕ)
-    → ArePartsOf asked.count events parts → i < length parts → p ≡ get_or parts i p
+    → AreAllParts asked.count events parts → i < length parts → p ≡ get_or parts i p
     → rows ≡ part_counts asked events i → name ≡ part_name asked.prefix i → n ≡ length p
     → rows ++ (name, n) ∷ [] ≡ part_counts asked events (i + 1)
 count_more asked events parts i p rows name n are below at rest is_name count =
@@ -44,7 +44,7 @@ count_more asked events parts i p rows name n are below at rest is_name count =
 
 -- a file more is saved
 pub file_more : (asked : Split) (events : List EventValue) (parts : List (List EventValue)) (i : ℕ) (p : List EventValue) (a b c : Option (List Output))
-    → ArePartsOf asked.count events parts → i < length parts → p ≡ get_or parts i p
+    → AreAllParts asked.count events parts → i < length parts → p ≡ get_or parts i p
     → GrewBy a b (part_files asked events i) → GrewBy b c (file_of asked.prefix i p true ∷ []) → GrewBy a c (part_files asked events (i + 1))
 file_more asked events parts i p a b c are below at rest more =
     let file = subst (λ (z : List EventValue). GrewBy b c (file_of asked.prefix i z true ∷ [])) (is_part asked events parts i p are below at) more in
@@ -53,14 +53,14 @@ file_more asked events parts i p a b c are below at rest more =
 
 -- the next file isn't saved
 next_refused : (asked : Split) (events : List EventValue) (parts : List (List EventValue)) (i : ℕ) (p : List EventValue) (a b c : Option (List Output))
-    → ArePartsOf asked.count events parts → i < length parts → p ≡ get_or parts i p
+    → AreAllParts asked.count events parts → i < length parts → p ≡ get_or parts i p
     → GrewBy a b (part_files asked events i) → GrewBy b c (file_of asked.prefix i p false ∷ []) → GrewBy a c (files_to asked events i)
 next_refused asked events parts i p a b c are below at rest more =
     let file = subst (λ (z : List EventValue). GrewBy b c (file_of asked.prefix i z false ∷ [])) (is_part asked events parts i p are below at) more in
     grew_on a b c (part_files asked events i) (part_file asked events false i ∷ []) rest file
 
 pub stopped : (asked : Split) (events : List EventValue) (parts : List (List EventValue)) (i : ℕ) (p : List EventValue) (a b c : Option (List Output)) (f : SplitFault)
-    → ArePartsOf asked.count events parts → i < length parts → p ≡ get_or parts i p
+    → AreAllParts asked.count events parts → i < length parts → p ≡ get_or parts i p
     → GrewBy a b (part_files asked events i) → RefusesFile asked.prefix i p b c f → StopsParts asked events a c f
 stopped asked events parts i p a b c fault.OutOfMemory are below at rest (inl none) =
     (i, subst (λ (n : ℕ). i < n) are.len below, inl (subst (GrewBy a c) (append-nil (part_files asked events i)) (grew_on a b c (part_files asked events i) [] rest none)))

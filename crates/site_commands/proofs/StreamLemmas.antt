@@ -4,24 +4,24 @@ use Rattle.std.specs.Result.{IfErr}
 use Rattle.std.specs.List.{AllByRecursion, flat_map}
 use Rattle.std.specs.Io.KnownBytes.{IsAtEnd}
 use Rattle.command_words.specs.declared.request.Follow.{Follow}
-use Rattle.file_reports.specs.declared.input.Unread.{Unread}
+use Rattle.event_files.specs.declared.input.Unread.{Unread}
 use Rattle.line_intake.specs.Acknowledged.{AreTold, TellsAll, TellsPart, TellsSome}
 use Rattle.line_intake.specs.Judged.{TakesLines}
-use Rattle.line_intake.specs.Lines.{IsPlain}
+use Rattle.line_intake.specs.Lines.{HasNoLineFeed}
 use Rattle.line_intake.specs.declared.answer.Told.{Told}
 use Rattle.databases.specs.Streams.{AcknowledgesUntil}
 use Rattle.databases.specs.declared.stream.StreamFault.{StreamFault}
 use Rattle.databases.specs.declared.stream.StreamFault.TheVariants as stream
 use Rattle.site_commands.specs.Endings.{EndsStream, SaysRefusal}
 use Rattle.site_commands.specs.Inputs.{MayGive}
-use Rattle.site_commands.specs.Names.{Names, of_follow}
-use Rattle.site_commands.specs.Streams.{EndsSo, FollowsAll, FollowsPart, FollowsSome, RefusesFollow, end_at, end_of}
+use Rattle.site_commands.specs.Names.{Names, names_of_follow}
+use Rattle.site_commands.specs.Streams.{EndsSo, FollowsAll, FollowsPart, FollowsSome, RefusesFollow, end_at, end_of_stream}
 use Rattle.site_commands.specs.declared.line.Refusal.{Refusal}
 use Rattle.site_commands.specs.declared.line.Refusal.TheVariants as refusal
 use Rattle.site_commands.specs.declared.stream.StreamEnd.{StreamEnd}
 use Rattle.site_commands.specs.declared.stream.StreamEnd.TheVariants as end
 
-pub end_of_some : (faults : ℕ) → faults ≢ 0 → end_of faults ≡ end.Refused (refusal.Lines faults)
+pub end_of_some : (faults : ℕ) → faults ≢ 0 → end_of_stream faults ≡ end.Refused (refusal.Lines faults)
 end_of_some zero some = absurd (some refl)
 end_of_some (suc n) some = refl
 
@@ -30,7 +30,7 @@ some_of n e = omega (arith, e)
 
 -- ---- the bytes of a file of which lines were taken
 
-pub plain_lines : (a b : Option (List ℕ)) (lines : List (List ℕ)) → TakesLines a lines b → AllByRecursion (λ l. IsPlain l) lines
+pub plain_lines : (a b : Option (List ℕ)) (lines : List (List ℕ)) → TakesLines a lines b → AllByRecursion (λ l. HasNoLineFeed l) lines
 plain_lines a b [] it = tt
 plain_lines a b (l ∷ lines) (mid, first, later) = (first.plain, plain_lines mid b lines later)
 
@@ -38,7 +38,7 @@ plain_lines a b (l ∷ lines) (mid, first, later) = (first.plain, plain_lines mi
 abbrev pub ended : List (List ℕ) → List ℕ
 ended lines = flat_map (λ l. l ++ 10 ∷ []) lines
 
-pub taken_anew : (lines : List (List ℕ)) → AllByRecursion (λ l. IsPlain l) lines → TakesLines (Some (ended lines)) lines (Some [])
+pub taken_anew : (lines : List (List ℕ)) → AllByRecursion (λ l. HasNoLineFeed l) lines → TakesLines (Some (ended lines)) lines (Some [])
 taken_anew [] plain = refl
 taken_anew (l ∷ lines) (first, later) = (Some (ended lines), record { plain = first; taken = inl refl }, taken_anew lines later)
 
@@ -78,7 +78,7 @@ module _ (C : List ℕ → List ℕ → Type 0) (U : List ℕ → Unread → Typ
     tells = record { left = it.2; tells = t.tells; text = t.text; told = it.3; rest = t.rest; written = t.written };
   })
 
-  ends_all : (faults : ℕ) → TellsAll known out out' faults → EndsSo C U file (end_of faults) out out'
+  ends_all : (faults : ℕ) → TellsAll known out out' faults → EndsSo C U file (end_of_stream faults) out out'
   ends_all zero told = follows_all zero told
   ends_all (suc n) told = (some_of n, follows_all (suc n) told)
 
@@ -88,12 +88,12 @@ module _ (C : List ℕ → List ℕ → Type 0) (U : List ℕ → Unread → Typ
   ends_until stream.Unwritten told = follows_part told
 
   -- what was written until the stream ended is what its end says
-  pub ends_so : (ended : Result ℕ StreamFault) (so : StreamEnd) → IfOk ended (TellsAll known out out') → IfErr ended (λ why. AcknowledgesUntil why known out out') → MatchResult ended (λ faults. so ≡ end_of faults) (λ why. so ≡ end_at why) → EndsSo C U file so out out'
+  pub ends_so : (ended : Result ℕ StreamFault) (so : StreamEnd) → IfOk ended (TellsAll known out out') → IfErr ended (λ why. AcknowledgesUntil why known out out') → MatchResult ended (λ faults. so ≡ end_of_stream faults) (λ why. so ≡ end_at why) → EndsSo C U file so out out'
   ends_so (Ok faults) so all until is = subst (λ e. EndsSo C U file e out out') (sym is) (ends_all faults all)
   ends_so (Err why) so all until is = subst (λ e. EndsSo C U file e out out') (sym is) (ends_until why until)
 
 -- what is refused is said
-pub refused_stream : (C : List ℕ → List ℕ → Type 0) (U : List ℕ → Unread → Type 0) (f : Follow) (name : List ℕ) (n : Names) (why : Refusal) (r : ℕ) (out out' err err' : Option (List ℕ)) → name ≡ f.file → n ≡ of_follow f
+pub refused_stream : (C : List ℕ → List ℕ → Type 0) (U : List ℕ → Unread → Type 0) (f : Follow) (name : List ℕ) (n : Names) (why : Refusal) (r : ℕ) (out out' err err' : Option (List ℕ)) → name ≡ f.file → n ≡ names_of_follow f
     → RefusesFollow C U name why out out' → SaysRefusal n why r err err' → EndsStream C U f r out out' err err'
 refused_stream C U f name n why r out out' err err' same named refuses says =
     inr (inl (why, subst (λ z. RefusesFollow C U z why out out') same refuses, subst (λ z. SaysRefusal z why r err err') named says))

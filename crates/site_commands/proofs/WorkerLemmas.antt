@@ -4,13 +4,13 @@ use Rattle.std.specs.Result.{IfErr}
 use Rattle.std.specs.Option.{is_some}
 use Rattle.attributes.specs.Event.{EventValue}
 use Rattle.command_words.specs.Plans.{AreFew}
-use Rattle.file_reports.specs.Shelves.{AreContents}
-use Rattle.file_reports.specs.declared.input.Unread.{Unread}
-use Rattle.file_reports.specs.declared.shelf.UnreadAt.{UnreadAt}
+use Rattle.event_files.specs.Shelves.{AreContents}
+use Rattle.event_files.specs.declared.input.Unread.{Unread}
+use Rattle.event_files.specs.declared.shelf.UnreadAt.{UnreadAt}
 use Rattle.site_commands.specs.Answers.{AnswersRun, RefusesRun}
 use Rattle.site_commands.specs.Jobs.{AnswersJobs, ArePeers, RefusesJobs, RefusesPeer}
 use Rattle.site_commands.specs.Names.{files_of_run}
-use Rattle.site_commands.specs.Pieces.{IsRefused}
+use Rattle.site_commands.specs.Pieces.{IsInputRefused}
 use Rattle.site_commands.specs.declared.line.Refusal.{Refusal}
 use Rattle.site_commands.specs.declared.line.Refusal.TheVariants as refusal
 
@@ -19,7 +19,7 @@ use Rattle.site_commands.specs.declared.line.Refusal.TheVariants as refusal
 pub with_peer : (has_lines : Bool) (contents rest : List (List ℕ)) (content : List ℕ) (peers : List (List EventValue)) → contents ≡ content ∷ rest → ArePeers true has_lines (content ∷ []) peers → ArePeers true has_lines contents peers
 with_peer has_lines contents rest content peers is h = subst (λ (l : List (List ℕ)). ArePeers true has_lines l peers) (sym is) h
 
-pub peer_refused : (has_lines : Bool) (contents rest : List (List ℕ)) (content : List ℕ) (why : Refusal) → contents ≡ content ∷ rest → IsRefused has_lines (content ∷ []) why → RefusesPeer true has_lines contents why
+pub peer_refused : (has_lines : Bool) (contents rest : List (List ℕ)) (content : List ℕ) (why : Refusal) → contents ≡ content ∷ rest → IsInputRefused has_lines (content ∷ []) why → RefusesPeer true has_lines contents why
 peer_refused has_lines contents rest content why is h = subst (λ (l : List (List ℕ)). RefusesPeer true has_lines l why) (sym is) h
 
 -- ---- the run

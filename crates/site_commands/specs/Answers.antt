@@ -29,16 +29,17 @@ use Rattle.command_words.specs.declared.request.Alone.{Alone}
 use Rattle.command_words.specs.declared.request.Alone.TheVariants as alone
 use Rattle.command_words.specs.declared.request.Once.{Once}
 use Rattle.command_words.specs.declared.request.Once.TheVariants as once
-use Rattle.file_reports.specs.Shelves.{AreContents, IsUnreadAt}
-use Rattle.file_reports.specs.Reports.{EachReads, IsReport, IsReportWith, SpellAll}
-use Rattle.file_reports.specs.declared.input.Unread.{Unread}
-use Rattle.parts.specs.Part.{IsCount}
+use Rattle.event_files.specs.Shelves.{AreContents, IsUnreadAt}
+use Rattle.event_files.specs.Files.{EachReads, SpellAll}
+use Rattle.file_reports.specs.Reports.{IsReport, IsReportWith}
+use Rattle.event_files.specs.declared.input.Unread.{Unread}
+use Rattle.parts.specs.Part.{IsCountOfParts}
 use Rattle.views.specs.declared.query.Query.{Query}
 use Rattle.site_commands.specs.Jobs.{AnswersJobs, RefusesJobs}
 use Rattle.site_commands.specs.Names.{files_of_run}
-use Rattle.site_commands.specs.Numbers.{AnswersNumber}
+use Rattle.site_commands.specs.Numbers.{AnswersNumbering}
 use Rattle.site_commands.specs.Parts.{AnswersCombine, AnswersPart}
-use Rattle.site_commands.specs.Pieces.{IsRefused, pieces_of}
+use Rattle.site_commands.specs.Pieces.{IsInputRefused, pieces_of}
 use Rattle.site_commands.specs.Splits.{AnswersSplit}
 use Rattle.site_commands.specs.Streams.{AnswersFollow}
 use Rattle.site_commands.specs.Checks.{FindsNone, RefusesCheck}
@@ -59,7 +60,7 @@ AnswersQuery C query has_lines (Some db) files text = (contents : List (List ℕ
 -- the files were read, and this is the first of them at fault, or the first line at fault
 abbrev pub RefusesPiece : (List ℕ → List ℕ → Type 0) → Bool → List (List ℕ) → Refusal → Type 0
 RefusesPiece C has_lines files refusal =
-    (contents : List (List ℕ)) × AreContents C files contents × IsRefused has_lines contents refusal
+    (contents : List (List ℕ)) × AreContents C files contents × IsInputRefused has_lines contents refusal
 
 -- the first file that wasn't read, or, where all were, the first file or line at fault, or, where
 -- none was, the database, if one is given
@@ -76,21 +77,26 @@ RefusesQuery C U has_lines (Some db) files (refusal.Database why) =
     × OrOfNamed IsUntold why
 RefusesQuery C U has_lines db files _ = ⊥
 
+-- so it is where only files are asked
+abbrev pub RefusesFiles : (List ℕ → List ℕ → Type 0) → (List ℕ → Unread → Type 0)
+    → Bool → List (List ℕ) → Refusal → Type 0
+RefusesFiles C U has_lines files = RefusesQuery C U has_lines None files
+
 -- the text is a page of rows behind a number, or all pages
 abbrev pub SaysRelay : ℕ → Bool → List ℕ → Type 0
 SaysRelay after false text = SaysRows after text
 SaysRelay after true text = SaysAllRows after text
 
 -- the status that an order gets by what is done with it
-abbrev pub status_of : Action → Status
-status_of action.Place = status.Placed
-status_of action.Ship = status.Shipped
-status_of action.Cancel = status.Cancelled
+abbrev pub status_by_action : Action → Status
+status_by_action action.Place = status.Placed
+status_by_action action.Ship = status.Shipped
+status_by_action action.Cancel = status.Cancelled
 
 -- the text is the event of the command that was asked for, of the source that was named, if one was
 abbrev pub AnswersOrder : Request → List ℕ → Type 0
 AnswersOrder r text = SaysOrder r.is_source_named r.source
-    (record { status = status_of r.action; order = r.order; at = r.at }) text
+    (record { status = status_by_action r.action; order = r.order; at = r.at }) text
 
 -- what is asked of an order is within what a service allows: its source, the order's number, and
 -- the length of the time
@@ -155,7 +161,7 @@ abbrev pub RefusesDelta : (List ℕ → List ℕ → Type 0) → (List ℕ → U
     → List ℕ → Refusal → Type 0
 RefusesDelta C U file (refusal.Unread at) = U file at.why
 RefusesDelta C U file (refusal.Summary why) = (bytes : List ℕ) × C file bytes
-    × (words : List ℕ) × WithoutLineEnd bytes words × summaries.Refuses words why
+    × (words : List ℕ) × WithoutLineEnd bytes words × summaries.RefusesSummary words why
 RefusesDelta C U file (refusal.Database why) =
     ((s : Sources) × HasSummary C file s) × OrOfNamed IsUntold why
 RefusesDelta C U file _ = ⊥
@@ -201,7 +207,7 @@ abbrev pub AnswersPlan : (List ℕ → List ℕ → Type 0) → Plan → List �
 AnswersPlan C (plan.Alone (alone.Once asked)) text = AnswersOnce C asked text
 AnswersPlan C (plan.Alone (alone.Follow lines)) text = AnswersFollow C lines.file text
 AnswersPlan C (plan.Alone (alone.Check judged)) text = FindsNone C judged text
-AnswersPlan C (plan.Alone (alone.Number lines)) text = AnswersNumber C lines text
+AnswersPlan C (plan.Alone (alone.Number lines)) text = AnswersNumbering C lines text
 AnswersPlan C (plan.Alone (alone.Combine asked)) text = AnswersCombine C asked text
 AnswersPlan C (plan.Alone (alone.Split asked)) text = AnswersSplit C asked text
 AnswersPlan C (plan.Run run) text = AnswersRun C run.peer run.files run.has_lines text
@@ -238,27 +244,27 @@ RefusesPlan C U (plan.Alone (alone.Split asked)) refusal =
 RefusesPlan C U (plan.Run run) refusal = RefusesRun C U run.peer run.files run.has_lines refusal
 
 -- what is asked of a service, an order or parts is within what is allowed
-abbrev pub IsAllowed : Once → Type 0
-IsAllowed (once.Ask query db files has_lines) = Unit {0}
-IsAllowed (once.Summary db) = Unit {0}
-IsAllowed (once.Take db files has_lines) = Unit {0}
-IsAllowed (once.Delta db which summary) = Unit {0}
-IsAllowed (once.Scrub db which) = Unit {0}
-IsAllowed (once.Arrivals db after is_all) = Unit {0}
-IsAllowed (once.Service db source is_named base) = (is_filled source ≡ true)
+abbrev pub IsAllowedOnce : Once → Type 0
+IsAllowedOnce (once.Ask query db files has_lines) = Unit {0}
+IsAllowedOnce (once.Summary db) = Unit {0}
+IsAllowedOnce (once.Take db files has_lines) = Unit {0}
+IsAllowedOnce (once.Delta db which summary) = Unit {0}
+IsAllowedOnce (once.Scrub db which) = Unit {0}
+IsAllowedOnce (once.Arrivals db after is_all) = Unit {0}
+IsAllowedOnce (once.Service db source is_named base) = (is_filled source ≡ true)
     × (length source ≤ 1024) × IfSome base (λ n. n ≤ max_sequence)
-IsAllowed (once.Order request) = IsAllowedRequest request
-IsAllowed (once.Relay db after is_all) = Unit {0}
-IsAllowed (once.Part count place files has_lines) = IsCount count × IfSome place (λ i. i < count)
+IsAllowedOnce (once.Order request) = IsAllowedRequest request
+IsAllowedOnce (once.Relay db after is_all) = Unit {0}
+IsAllowedOnce (once.Part count place files has_lines) = IsCountOfParts count × IfSome place (λ i. i < count)
 
 -- what one thread is asked for is so
 abbrev pub IsAllowedAlone : Alone → Type 0
-IsAllowedAlone (alone.Once asked) = IsAllowed asked
+IsAllowedAlone (alone.Once asked) = IsAllowedOnce asked
 IsAllowedAlone (alone.Follow lines) = Unit {0}
 IsAllowedAlone (alone.Check judged) = Unit {0}
 IsAllowedAlone (alone.Number lines) = Unit {0}
 IsAllowedAlone (alone.Combine asked) = Unit {0}
-IsAllowedAlone (alone.Split asked) = IsCount asked.count
+IsAllowedAlone (alone.Split asked) = IsCountOfParts asked.count
 
 -- and what a plan is
 abbrev pub IsAllowedPlan : Plan → Type 0

@@ -11,10 +11,10 @@ use Rattle.databases.specs.declared.trouble.Trouble.TheVariants.{NoFile, OutOfMe
 use Rattle.event_json.specs.declared.fault.ReadFault.TheVariants as read
 use Rattle.fault_lines.specs.Lines.{IsFaultText, line_with, string_text}
 use Rattle.fault_lines.specs.Words.{hint, whole_hint}
-use Rattle.file_reports.specs.Shelves.{AreContents, IsUnreadAt}
-use Rattle.file_reports.specs.declared.input.Unread.{Unread}
-use Rattle.number_lines.specs.Judged.{IsJudged}
-use Rattle.number_lines.specs.Words.{words_of}
+use Rattle.event_files.specs.Shelves.{AreContents, IsUnreadAt}
+use Rattle.event_files.specs.declared.input.Unread.{Unread}
+use Rattle.number_lines.specs.Judged.{IsJudgedToNumber}
+use Rattle.number_lines.specs.Words.{words_of_refusal}
 use Rattle.number_lines.specs.declared.refusal.LineRefusal.{LineRefusal}
 use Rattle.number_lines.specs.declared.refusal.LineRefusal.TheVariants as line
 use Rattle.numbers.specs.declared.fault.NumberFault.TheVariants as number
@@ -43,12 +43,12 @@ number_hint (line.Aside index) = codes "its sequence can't stand under that name
 -- the line that says why `number` refuses what has this name; none where it doesn't
 abbrev pub refusal_line : List ℕ → Option LineRefusal → List ℕ
 refusal_line name None = []
-refusal_line name (Some why) = line_with (string_text name) (words_of why) (number_hint why)
+refusal_line name (Some why) = line_with (string_text name) (words_of_refusal why) (number_hint why)
 
 -- the text is the line that says why `number` refuses the bytes, which have this name, or none
 abbrev pub TellsRefusal : List ℕ → List ℕ → List ℕ → Type 0
 TellsRefusal name bytes text = (why : Option LineRefusal)
-    × ((events : List EventValue) × IsJudged None bytes why events) × (text ≡ refusal_line name why)
+    × ((events : List EventValue) × IsJudgedToNumber None bytes why events) × (text ≡ refusal_line name why)
 
 -- the text has the lines of what is at fault in the bytes, which have this name: as sites take
 -- them, or as `number` does

@@ -7,10 +7,10 @@ use Rattle.site_commands.specs.declared.ending.Ending.{Ending}
 use Rattle.site_commands.specs.declared.ending.Ending.TheVariants as ending
 use Rattle.command_words.specs.declared.request.Follow.{Follow}
 use Rattle.command_words.specs.declared.request.Number.{Number}
-use Rattle.file_reports.specs.declared.input.Unread.{Unread}
+use Rattle.event_files.specs.declared.input.Unread.{Unread}
 use Rattle.line_intake.specs.Written.{Wrote}
 use Rattle.site_commands.specs.Lines.{line_of, memory_line}
-use Rattle.site_commands.specs.Names.{Names, of_follow, of_number}
+use Rattle.site_commands.specs.Names.{Names, names_of_follow, of_number}
 use Rattle.site_commands.specs.Numbers.{NumbersFile, NumbersUnsaid, RefusesNumbers}
 use Rattle.site_commands.specs.Streams.{FollowsAll, FollowsPart, RefusesFollow}
 use Rattle.site_commands.specs.declared.line.Refusal.{Refusal}
@@ -22,8 +22,8 @@ Writes result status old new text = ((result ≡ status) × Appends old new text
     ⊎ ((result ≡ 1) × (rest : List ℕ) × Wrote old new text rest)
 
 -- the stream grew by the text, or, where the writing failed, by a front of it
-abbrev pub Grows : Option (List ℕ) → Option (List ℕ) → List ℕ → Type 0
-Grows old new text = Appends old new text ⊎ ((rest : List ℕ) × Wrote old new text rest)
+abbrev pub GrowsBy : Option (List ℕ) → Option (List ℕ) → List ℕ → Type 0
+GrowsBy old new text = Appends old new text ⊎ ((rest : List ℕ) × Wrote old new text rest)
 
 -- standard output grew by all pages, or, where the writing failed, by a front of them, and then
 -- nothing was said; or memory ran out behind so many whole pages, and standard error says so
@@ -41,7 +41,7 @@ abbrev pub Ends : Ending → ℕ → Option (List ℕ) → Option (List ℕ)
     → Option (List ℕ) → Option (List ℕ) → Type 0
 Ends (ending.Answer text) result out out' err err' = Writes result 0 out out' text × Keeps err err'
 Ends (ending.Told text made) result out out' err err' =
-    Writes result 0 out out' text × Grows err err' made
+    Writes result 0 out out' text × GrowsBy err err' made
 Ends (ending.Pages events) result out out' err err' = EndsPages events result out out' err err'
 Ends (ending.Findings text) result out out' err err' =
     Writes result 1 out out' text × Keeps err err'
@@ -69,7 +69,7 @@ abbrev pub EndsStream : (List ℕ → List ℕ → Type 0) → (List ℕ → Unr
 EndsStream C U lines result out out' err err' =
     ((result ≡ 0) × FollowsAll C lines.file out out' 0 × Keeps err err')
     ⊎ (((refusal : Refusal) × RefusesFollow C U lines.file refusal out out'
-    × SaysRefusal (of_follow lines) refusal result err err')
+    × SaysRefusal (names_of_follow lines) refusal result err err')
     ⊎ ((result ≡ 1) × FollowsPart C lines.file out out' × Keeps err err'))
 
 -- how a stream of lines that are numbered ends: every line is answered and none refused, or it is

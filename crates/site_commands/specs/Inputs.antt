@@ -1,6 +1,6 @@
 -- What may be read.
 use Rattle.std.specs.Prelude.{◌≡◌, ℕ, List, Option, None, Some}
-use Rattle.file_reports.specs.declared.input.Unread.{Unread}
+use Rattle.event_files.specs.declared.input.Unread.{Unread}
 
 -- an input may give these bytes: those that it is known to have, or, where none are known, any
 abbrev pub MayGive : Option (List ℕ) → List ℕ → Type 0

@@ -5,15 +5,15 @@ use Rattle.databases.specs.declared.fault.CommandFault.TheVariants as command
 use Rattle.event_json.specs.BatchText.{batch_text}
 use Rattle.event_json.specs.Reading.{Reads, Refuses}
 use Rattle.event_json.specs.declared.fault.ReadFault.{ReadFault}
-use Rattle.file_reports.specs.Reports.{SpellAll}
-use Rattle.file_reports.specs.declared.refusal.Refused.{Refused}
-use Rattle.file_reports.specs.declared.refusal.ReportFault.TheVariants as report
+use Rattle.event_files.specs.Files.{SpellAll}
+use Rattle.event_files.specs.declared.refusal.Refused.{Refused}
+use Rattle.event_files.specs.declared.refusal.ReportFault.TheVariants as report
 use Rattle.run_command.specs.Fault.{IsOfNamed}
 use Rattle.run_command.specs.Outcome.{IsOutcome}
 use Rattle.run_command.specs.Peer.{peer_of}
 use Rattle.run_command.specs.Run.{SaysRun}
 use Rattle.run_command.specs.declared.fault.RunFault.TheVariants as run
-use Rattle.site_commands.specs.Pieces.{FileLine, IsRefused, lines_behind, lines_from, lines_of, pieces_of}
+use Rattle.site_commands.specs.Pieces.{FileLine, IsInputRefused, lines_behind, lines_from, lines_of, pieces_of}
 use Rattle.site_commands.specs.declared.batches.FeedFault.{FeedFault}
 use Rattle.site_commands.specs.declared.batches.FeedFault.TheVariants as feed
 use Rattle.site_commands.specs.declared.line.Refusal.{Refusal}
@@ -29,12 +29,12 @@ SpellLines (line ∷ lines) events = (own : List EventValue) × (rest : List Eve
     × Reads line.bytes own × SpellLines lines rest × (events ≡ own ++ rest)
 
 -- this is the first of the lines that spells no events, and why
-abbrev pub IsFirstUnread : List FileLine → RefusedLine → Type 0
-IsFirstUnread [] refused = ⊥
-IsFirstUnread (line ∷ lines) refused =
+abbrev pub IsFirstUnreadLine : List FileLine → RefusedLine → Type 0
+IsFirstUnreadLine [] refused = ⊥
+IsFirstUnreadLine (line ∷ lines) refused =
     ((refused.at ≡ line.at) × (why : ReadFault) × (refused.fault ≡ report.Read why)
     × Refuses line.bytes why)
-    ⊎ (((own : List EventValue) × Reads line.bytes own) × IsFirstUnread lines refused)
+    ⊎ (((own : List EventValue) × Reads line.bytes own) × IsFirstUnreadLine lines refused)
 
 -- the text is the batch of the events of the lines of this file, which stands at this place
 abbrev pub IsBatchOf : ℕ → List ℕ → List ℕ → Type 0
@@ -55,9 +55,9 @@ AreFeeds false first contents feeds = feeds ≡ contents
 AreFeeds true first contents feeds = AreBatches first contents feeds
 
 -- memory ran out, or one of the lines spells no events
-abbrev pub IsFeedFault : List FileLine → FeedFault → Type 0
-IsFeedFault lines feed.OutOfMemory = Unit {0}
-IsFeedFault lines (feed.Line refused) = IsFirstUnread lines refused
+abbrev pub IsLineFeedFault : List FileLine → FeedFault → Type 0
+IsLineFeedFault lines feed.OutOfMemory = Unit {0}
+IsLineFeedFault lines (feed.Line refused) = IsFirstUnreadLine lines refused
 
 -- ---- peers and feeds
 
@@ -70,7 +70,7 @@ ArePeers true has_lines contents peers = (events : List EventValue)
 -- the first content is a peer's, and it is refused, or a line of it
 abbrev pub RefusesPeer : Bool → Bool → List (List ℕ) → Refusal → Type 0
 RefusesPeer false has_lines contents refusal = ⊥
-RefusesPeer true has_lines contents refusal = IsRefused has_lines (take 1 contents) refusal
+RefusesPeer true has_lines contents refusal = IsInputRefused has_lines (take 1 contents) refusal
 
 -- the contents of the feeds of a run: all but its peer's
 abbrev pub feeds_in : Bool → List (List ℕ) → List (List ℕ)
@@ -106,7 +106,7 @@ pub record RefusesFeed (first : ℕ) (feeds : List (List ℕ)) (peers : List (Li
 -- fault, the database or a thread
 abbrev pub RefusesFeeds : Bool → ℕ → List (List ℕ) → List (List EventValue) → Refusal → Type 0
 RefusesFeeds has_lines first contents peers (refusal.Line refused) =
-    (has_lines ≡ true) × IsFirstUnread (lines_behind first contents) refused
+    (has_lines ≡ true) × IsFirstUnreadLine (lines_behind first contents) refused
 RefusesFeeds has_lines first contents peers (refusal.File refused) = (feeds : List (List ℕ))
     × AreFeeds has_lines first contents feeds × RefusesFeed first feeds peers refused
 RefusesFeeds has_lines first contents peers (refusal.Database why) = IsOfNamed why

@@ -5,10 +5,10 @@ use Rattle.std.specs.Fmt.{decimal}
 use Rattle.std.specs.List.{flat_map}
 use Rattle.std.specs.Str.{chars}
 use Rattle.event_json.specs.declared.fault.ReadFault.TheVariants as read
-use Rattle.file_reports.specs.declared.input.Unread.{Unread}
-use Rattle.file_reports.specs.declared.input.Unread.TheVariants as unread
-use Rattle.file_reports.specs.declared.refusal.ReportFault.{ReportFault}
-use Rattle.file_reports.specs.declared.refusal.ReportFault.TheVariants as report
+use Rattle.event_files.specs.declared.input.Unread.{Unread}
+use Rattle.event_files.specs.declared.input.Unread.TheVariants as unread
+use Rattle.event_files.specs.declared.refusal.ReportFault.{ReportFault}
+use Rattle.event_files.specs.declared.refusal.ReportFault.TheVariants as report
 use Rattle.line_intake.specs.Words.{words_of}
 use Rattle.coverage.specs.declared.fault.SummaryFault.{SummaryFault}
 use Rattle.coverage.specs.declared.fault.SummaryFault.TheVariants as summary
@@ -76,40 +76,40 @@ unread_line name unread.CannotRead = file_line name (codes "cannot read")
 unread_line name unread.TooLarge = file_line name (codes "too large")
 
 -- a file of this name is at fault
-abbrev pub fault_line : List ℕ → ReportFault → List ℕ
-fault_line name report.OutOfMemory = memory_line
-fault_line name (report.Read read.OutOfMemory) = memory_line
-fault_line name why = file_line name (words_of why)
+abbrev pub file_fault_line : List ℕ → ReportFault → List ℕ
+file_fault_line name report.OutOfMemory = memory_line
+file_fault_line name (report.Read read.OutOfMemory) = memory_line
+file_fault_line name why = file_line name (words_of why)
 
 -- so many lines of an input were at fault
 abbrev pub lines_line : ℕ → List ℕ
 lines_line faults = codes "site: " ++ decimal faults ++ (codes " lines refused" ++ 10 ∷ [])
 
 -- the summary in a file of this name is at fault
-abbrev pub summary_line : List ℕ → SummaryFault → List ℕ
-summary_line name summary.OutOfMemory = memory_line
-summary_line name summary.NotJson = file_line name (codes "not JSON")
-summary_line name summary.Shape = file_line name (codes "Shape")
-summary_line name summary.Version = file_line name (codes "Version")
-summary_line name summary.NotCanonical = file_line name (codes "NotCanonical")
+abbrev pub summary_fault_line : List ℕ → SummaryFault → List ℕ
+summary_fault_line name summary.OutOfMemory = memory_line
+summary_fault_line name summary.NotJson = file_line name (codes "not JSON")
+summary_fault_line name summary.Shape = file_line name (codes "Shape")
+summary_fault_line name summary.Version = file_line name (codes "Version")
+summary_fault_line name summary.NotCanonical = file_line name (codes "NotCanonical")
 
 -- `site: order N: NAME`
 abbrev pub order_line : ℕ → List ℕ → List ℕ
 order_line number name = codes "site: order " ++ decimal number ++ codes ": " ++ name ++ 10 ∷ []
 
 -- a command over the database of this name, about this order, has no answer
-abbrev pub database_line : List ℕ → ℕ → CommandFault → List ℕ
-database_line db number database.OutOfMemory = memory_line
-database_line db number database.Store = file_line db (codes "Store")
-database_line db number database.Foreign = file_line db (codes "Foreign")
-database_line db number database.OrderExists = order_line number (codes "OrderExists")
-database_line db number database.NoOrder = order_line number (codes "NoOrder")
-database_line db number database.WrongState = order_line number (codes "WrongState")
-database_line db number database.Full = order_line number (codes "Full")
-database_line db number database.RouteFailed = codes "site: route failed" ++ 10 ∷ []
-database_line db number database.AnotherSource = file_line db (codes "another source")
-database_line db number database.CannotRead = file_line db (codes "cannot read")
-database_line db number database.Cache =
+abbrev pub database_fault_line : List ℕ → ℕ → CommandFault → List ℕ
+database_fault_line db number database.OutOfMemory = memory_line
+database_fault_line db number database.Store = file_line db (codes "Store")
+database_fault_line db number database.Foreign = file_line db (codes "Foreign")
+database_fault_line db number database.OrderExists = order_line number (codes "OrderExists")
+database_fault_line db number database.NoOrder = order_line number (codes "NoOrder")
+database_fault_line db number database.WrongState = order_line number (codes "WrongState")
+database_fault_line db number database.Full = order_line number (codes "Full")
+database_fault_line db number database.RouteFailed = codes "site: route failed" ++ 10 ∷ []
+database_fault_line db number database.AnotherSource = file_line db (codes "another source")
+database_fault_line db number database.CannotRead = file_line db (codes "cannot read")
+database_fault_line db number database.Cache =
     codes "site: SITE_CACHE_MIB isn't a whole number from 1 to 1048576" ++ 10 ∷ []
 
 -- the lines of what was made: the file of this database, a service in it
@@ -121,11 +121,11 @@ made_lines file service db =
 -- the one line of a refusal of a plan that names these
 abbrev pub line_of : Names → Refusal → List ℕ
 line_of names (refusal.Unread at) = unread_line (name_at names.files at.file) at.why
-line_of names (refusal.File refused) = fault_line (name_at names.files refused.file) refused.fault
+line_of names (refusal.File refused) = file_fault_line (name_at names.files refused.file) refused.fault
 line_of names (refusal.Line refused) =
-    fault_line (line_name (name_at names.files refused.at.file) refused.at.line) refused.fault
-line_of names (refusal.Summary why) = summary_line (name_at names.files 0) why
-line_of names (refusal.Database why) = database_line names.db names.order why
+    file_fault_line (line_name (name_at names.files refused.at.file) refused.at.line) refused.fault
+line_of names (refusal.Summary why) = summary_fault_line (name_at names.files 0) why
+line_of names (refusal.Database why) = database_fault_line names.db names.order why
 line_of names refusal.NoThread = codes "site: no thread" ++ 10 ∷ []
 line_of names (refusal.Lines faults) = lines_line faults
 line_of names refusal.NoNumber = file_line names.db (codes "Full")

@@ -38,9 +38,9 @@ of_once (once.Order request) = record { db = request.db; order = request.order; 
 of_once (once.Relay db after is_all) = record { db = db; order = 0; files = [] }
 of_once (once.Part count place files has_lines) = record { db = []; order = 0; files = files }
 
--- what a stream names
-abbrev pub of_follow : Follow → Names
-of_follow lines = record { db = lines.db; order = 0; files = lines.file ∷ [] }
+-- the names that error lines of `follow` tell: its database and its file
+abbrev pub names_of_follow : Follow → Names
+names_of_follow lines = record { db = lines.db; order = 0; files = lines.file ∷ [] }
 
 -- what a stream of lines that are numbered names
 abbrev pub of_number : Number → Names
@@ -65,7 +65,7 @@ of_run run = record { db = run.db; order = 0; files = files_of_run run.peer run.
 -- what a plan names
 abbrev pub of_plan : Plan → Names
 of_plan (plan.Alone (alone.Once asked)) = of_once asked
-of_plan (plan.Alone (alone.Follow lines)) = of_follow lines
+of_plan (plan.Alone (alone.Follow lines)) = names_of_follow lines
 of_plan (plan.Alone (alone.Check judged)) = of_check judged
 of_plan (plan.Alone (alone.Number lines)) = of_number lines
 of_plan (plan.Alone (alone.Combine asked)) = of_combine asked

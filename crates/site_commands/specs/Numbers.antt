@@ -5,26 +5,26 @@ use Rattle.std.specs.Io.KnownBytes.{IsAtEnd, Keeps}
 use Rattle.attributes.specs.Event.{EventValue}
 use Rattle.command_words.specs.declared.request.Number.{Number}
 use Rattle.databases.specs.declared.fault.CommandFault.TheVariants as command
-use Rattle.file_reports.specs.declared.input.Unread.{Unread}
+use Rattle.event_files.specs.declared.input.Unread.{Unread}
 use Rattle.line_intake.specs.declared.line.LineFault.{LineFault}
 use Rattle.number_table.specs.Each.{AreNumberedEach}
 use Rattle.number_table.specs.declared.fault.NumbererFault.{NumbererFault}
 use Rattle.number_table.specs.declared.fault.NumbererFault.TheVariants as numberer
-use Rattle.number_lines.specs.Judged.{faults_in}
-use Rattle.number_lines.specs.Numbering.{AreNumbered, NumbersAll, NumbersPart, NumbersSome}
+use Rattle.number_lines.specs.Judged.{refusals_in}
+use Rattle.number_lines.specs.Numbering.{AreLinesNumbered, NumbersAll, NumbersRest, NumbersSome}
 use Rattle.number_lines.specs.Texts.{numbered_text}
 use Rattle.number_lines.specs.declared.named.NumberEnd.{NumberEnd}
 use Rattle.number_lines.specs.declared.named.NumberEnd.TheVariants as number
 use Rattle.number_lines.specs.declared.refusal.Told.{Told}
 use Rattle.number_lines.specs.declared.stream.NumberingFault.TheVariants as numbering
-use Rattle.site_commands.specs.Streams.{end_of, unread_of}
+use Rattle.site_commands.specs.Streams.{end_of_stream, unread_of}
 use Rattle.site_commands.specs.declared.line.Refusal.{Refusal}
 use Rattle.site_commands.specs.declared.line.Refusal.TheVariants as refusal
 use Rattle.site_commands.specs.declared.stream.StreamEnd.{StreamEnd}
 use Rattle.site_commands.specs.declared.stream.StreamEnd.TheVariants as end
 
 -- the text has each line's events with numbers, and no line is refused
-pub record AnswersNumber (C : List ℕ → List ℕ → Type 0) (lines : Number) (text : List ℕ)
+pub record AnswersNumbering (C : List ℕ → List ℕ → Type 0) (lines : Number) (text : List ℕ)
     : Type 0 where
   pub bytes : List ℕ
   pub of_file : C lines.file bytes
@@ -32,9 +32,9 @@ pub record AnswersNumber (C : List ℕ → List ℕ → Type 0) (lines : Number)
   pub over : IsAtEnd left
   pub tells : List Told
   pub answers : List (List EventValue)
-  pub are : AreNumbered lines.aside AreNumberedEach (Some bytes) left tells answers
+  pub are : AreLinesNumbered lines.aside AreNumberedEach (Some bytes) left tells answers
   pub is : text ≡ numbered_text tells answers
-  pub faultless : faults_in tells ≡ 0
+  pub faultless : refusals_in tells ≡ 0
 
 -- every line is answered, and so many are refused
 pub record NumbersFile (C : List ℕ → List ℕ → Type 0) (lines : Number)
@@ -55,7 +55,7 @@ pub record NumbersUnsaid (C : List ℕ → List ℕ → Type 0) (lines : Number)
     (out out' err err' : Option (List ℕ)) : Type 0 where
   pub bytes : List ℕ
   pub of_file : C lines.file bytes
-  pub part : NumbersPart lines.aside AreNumberedEach (Some bytes) out out' err err'
+  pub part : NumbersRest lines.aside AreNumberedEach (Some bytes) out out' err err'
 
 -- the refusal of a numberer
 abbrev pub refusal_of : NumbererFault → Refusal
@@ -68,7 +68,7 @@ refusal_of numberer.Foreign = refusal.Database command.Foreign
 
 -- how a stream ended
 abbrev pub number_end : Result ℕ NumberEnd → StreamEnd
-number_end (Ok faults) = end_of faults
+number_end (Ok faults) = end_of_stream faults
 number_end (Err (number.Database why)) = end.Refused (refusal.Database why)
 number_end (Err (number.Stream (numbering.Input why))) = end.Refused (refusal.Unread (unread_of why))
 number_end (Err (number.Stream (numbering.Numberer why))) = end.Refused (refusal_of why)

@@ -7,12 +7,12 @@ use Rattle.attributes.specs.Event.{EventValue}
 use Rattle.command_words.specs.declared.request.Combine.{Combine}
 use Rattle.coverage.specs.Summary.{Sources, sources_of}
 use Rattle.databases.specs.Print.{batch_line}
-use Rattle.file_reports.specs.Reports.{EachReads, SpellAll, joined}
-use Rattle.file_reports.specs.Shelves.{AreContents, IsUnreadAt}
-use Rattle.file_reports.specs.declared.input.Unread.{Unread}
-use Rattle.file_reports.specs.declared.shelf.UnreadAt.{UnreadAt}
+use Rattle.event_files.specs.Files.{EachReads, SpellAll, joined}
+use Rattle.event_files.specs.Shelves.{AreContents, IsUnreadAt}
+use Rattle.event_files.specs.declared.input.Unread.{Unread}
+use Rattle.event_files.specs.declared.shelf.UnreadAt.{UnreadAt}
 use Rattle.inbox.specs.Sets.{set_of}
-use Rattle.parts.specs.Combined.{AreApartCovers, Refuses}
+use Rattle.parts.specs.Combined.{AreApartCovers, RefusesCovers}
 use Rattle.parts.specs.Part.{part, part_of}
 use Rattle.parts.specs.Told.{IsHeld}
 use Rattle.parts.specs.Whole.{AreApartIn, ArePartsOf, RefusesParts}
@@ -27,6 +27,7 @@ use Rattle.site_commands.specs.Lines.{file_line, memory_line, name_at, printed_n
 use Rattle.site_commands.specs.Pieces.{pieces_of}
 use Rattle.site_commands.specs.declared.ending.Ending.{Ending}
 use Rattle.site_commands.specs.declared.ending.Ending.TheVariants as ending
+pub use Rattle.parts.specs.Whole.{has_covers, no_answer}
 
 -- ---- parts
 
@@ -54,23 +55,13 @@ AnswersPart C count (Some place) has_lines files text = (contents : List (List �
 
 -- ---- the answers of parts
 
--- beside the answers to the question the covers of the parts stand
-abbrev pub has_covers : Query → Bool
-has_covers query.Cover = false
-has_covers query.Shown = false
-has_covers query.Conflicts = true
-has_covers query.Latest = true
-has_covers query.Kinds = true
-has_covers query.Days = true
-has_covers query.Gaps = true
-
 -- the covers that stand beside the answers to the question, of those that are given
 abbrev pub covers_beside : Query → List (List ℕ) → List (List ℕ)
 covers_beside q covers = if has_covers q then covers else []
 
 -- where the contents are the answers of the parts of a set, and its parts' covers beside them, the
 -- text is the answer over the set; and no source stands in two of them
-pub record IsWhole (q : Query) (answers covers : List (List ℕ)) (text : List ℕ) : Type 0 where
+pub record IsWholeOfFiles (q : Query) (answers covers : List (List ℕ)) (text : List ℕ) : Type 0 where
   pub combined : (p : List ℕ → ℕ) (E : List EventValue) → IsHeld E
       → ArePartsOf q p E answers covers → IsAnswer q E text
   pub apart : AreApartIn q answers covers
@@ -82,7 +73,7 @@ pub record AnswersCombine (C : List ℕ → List ℕ → Type 0) (asked : Combin
   pub covers : List (List ℕ)
   pub answers_read : AreContents C asked.files answers
   pub covers_read : AreContents C (covers_beside asked.query asked.covers) covers
-  pub whole : IsWhole asked.query answers covers text
+  pub whole : IsWholeOfFiles asked.query answers covers text
 
 -- ---- why they make none
 
@@ -90,11 +81,6 @@ pub record AnswersCombine (C : List ℕ → List ℕ → Type 0) (asked : Combin
 abbrev pub IsNoText : List (List ℕ) → ℕ → Type 0
 IsNoText contents i =
     (bytes : List ℕ) × (slice_get contents i ≡ Some bytes) × (IsUtf8 bytes → ⊥)
-
--- the answer at the place is none to the question
-abbrev pub no_answer : Query → ℕ → CombineFault
-no_answer query.Cover i = fault.NotACover i
-no_answer _ i = fault.NotAnAnswer i
 
 -- memory ran out; or an answer or a cover is none, since it isn't UTF-8; or the texts are refused
 abbrev pub RefusesContents : Query → List (List ℕ) → List (List ℕ) → CombineFault → Type 0
@@ -105,7 +91,7 @@ RefusesContents q answers covers f = (f ≡ fault.OutOfMemory)
 
 -- the covers are refused by themselves, or they aren't
 abbrev pub AreRefused : List (List ℕ) → Bool → Type 0
-AreRefused covers true = (f : CombineFault) × (f ≢ fault.OutOfMemory) × Refuses covers f
+AreRefused covers true = (f : CombineFault) × (f ≢ fault.OutOfMemory) × RefusesCovers covers f
 AreRefused covers false = AreApartCovers covers
 
 -- a source that stands in two parts is seen in the covers, or it is seen in the answers

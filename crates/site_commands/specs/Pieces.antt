@@ -1,9 +1,9 @@
 -- What is judged of files: each as a whole, or each of their lines as a file of its own.
 use Rattle.std.specs.Prelude.{◌≡◌, ◌==◌, ◌||◌, ◌⊎◌, ℕ, suc, Bool, true, false, List, [], ◌∷◌, ◌++◌, Some, map, slice_get, if◌then◌else◌}
 use Rattle.std.specs.List.{list_all, slice_split}
-use Rattle.file_reports.specs.Reports.{IsAtFault, IsRefusal}
-use Rattle.file_reports.specs.Shelves.{AreContents}
-use Rattle.file_reports.specs.declared.refusal.ReportFault.TheVariants as report
+use Rattle.event_files.specs.Files.{IsAtFault, IsRefusal}
+use Rattle.event_files.specs.Shelves.{AreContents}
+use Rattle.event_files.specs.declared.refusal.ReportFault.TheVariants as report
 use Rattle.site_commands.specs.declared.line.Refusal.{Refusal}
 use Rattle.site_commands.specs.declared.line.Refusal.TheVariants as refusal
 use Rattle.site_commands.specs.declared.pieces.LineAt.{LineAt}
@@ -50,24 +50,24 @@ abbrev pub file_lines : List (List ℕ) → List FileLine
 file_lines contents = lines_behind 0 contents
 
 -- their bytes
-abbrev pub texts_of : List FileLine → List (List ℕ)
-texts_of lines = map (λ l. l.bytes) lines
+abbrev pub bytes_of_lines : List FileLine → List (List ℕ)
+bytes_of_lines lines = map (λ l. l.bytes) lines
 
 -- where they stand
-abbrev pub places_of : List FileLine → List LineAt
-places_of lines = map (λ l. l.at) lines
+abbrev pub places_of_lines : List FileLine → List LineAt
+places_of_lines lines = map (λ l. l.at) lines
 
 -- ---- what is judged
 
 -- what is judged of the contents of files: each as a whole, or each line as a file of its own
 abbrev pub pieces_of : Bool → List (List ℕ) → List (List ℕ)
 pieces_of false contents = contents
-pieces_of true contents = texts_of (file_lines contents)
+pieces_of true contents = bytes_of_lines (file_lines contents)
 
 -- where these stand, if they are lines
 abbrev pub places_in : Bool → List (List ℕ) → List LineAt
 places_in false contents = []
-places_in true contents = places_of (file_lines contents)
+places_in true contents = places_of_lines (file_lines contents)
 
 -- the files were read, and these texts are judged of them
 pub record ArePieces (C : List ℕ → List ℕ → Type 0) (has_lines : Bool) (files texts : List (List ℕ))
@@ -80,12 +80,12 @@ pub record ArePieces (C : List ℕ → List ℕ → Type 0) (has_lines : Bool) (
 -- this line is the first at fault of all files, and this is its first fault
 pub record IsLineAtFault (contents : List (List ℕ)) (refused : RefusedLine) : Type 0 where
   pub place : ℕ
-  pub is_there : slice_get (places_of (file_lines contents)) place ≡ Some refused.at
-  pub at_fault : IsAtFault (texts_of (file_lines contents)) place refused.fault
+  pub is_there : slice_get (places_of_lines (file_lines contents)) place ≡ Some refused.at
+  pub at_fault : IsAtFault (bytes_of_lines (file_lines contents)) place refused.fault
 
 -- memory ran out, or this is the first file at fault, or, where lines are judged, the first line
-abbrev pub IsRefused : Bool → List (List ℕ) → Refusal → Type 0
-IsRefused false contents (refusal.File refused) = IsRefusal contents refused
-IsRefused true contents (refusal.Line refused) =
+abbrev pub IsInputRefused : Bool → List (List ℕ) → Refusal → Type 0
+IsInputRefused false contents (refusal.File refused) = IsRefusal contents refused
+IsInputRefused true contents (refusal.Line refused) =
     (refused.fault ≡ report.OutOfMemory) ⊎ IsLineAtFault contents refused
-IsRefused _ contents _ = ⊥
+IsInputRefused _ contents _ = ⊥

@@ -17,7 +17,7 @@ use Rattle.command_words.specs.declared.request.Run.{Run}
 use Rattle.command_words.specs.declared.request.Once.{Once}
 use Rattle.command_words.specs.declared.request.Split.{Split}
 use Rattle.databases.specs.Pages.{pages_text}
-use Rattle.file_reports.specs.declared.input.Unread.{Unread}
+use Rattle.event_files.specs.declared.input.Unread.{Unread}
 use Rattle.site_commands.specs.Answers.{AnswersOnce, AnswersPlan, AnswersRun, RefusesOnce, RefusesPlan, RefusesQuery, RefusesRun}
 use Rattle.site_commands.specs.Checks.{FindsSome, IsCheckEnding}
 use Rattle.site_commands.specs.Endings.{Ends, EndsNumbers, EndsStream}
@@ -86,13 +86,13 @@ IsLine names refusal ending.NoMemory = Unit {0}
 IsLine names refusal _ = ⊥
 
 -- the answer, and the lines of what was made for it, or want of memory for these
-abbrev pub IsTold : List ℕ → Bool → Bool → List ℕ → Ending → Type 0
-IsTold db file service text (ending.Answer printed) =
+abbrev pub IsToldBeside : List ℕ → Bool → Bool → List ℕ → Ending → Type 0
+IsToldBeside db file service text (ending.Answer printed) =
     (printed ≡ text) × (file ≡ false) × (service ≡ false)
-IsTold db file service text (ending.Told printed made) =
+IsToldBeside db file service text (ending.Told printed made) =
     (printed ≡ text) × (made ≡ made_lines file service db)
-IsTold db file service text ending.NoMemory = Unit {0}
-IsTold db file service text _ = ⊥
+IsToldBeside db file service text ending.NoMemory = Unit {0}
+IsToldBeside db file service text _ = ⊥
 
 -- what a plan comes to that names these, where the texts are its answers and the refusals why it
 -- has none

@@ -6,8 +6,8 @@ use Rattle.std.specs.List.{range_with_len}
 use Rattle.attributes.specs.Event.{EventValue}
 use Rattle.command_words.specs.declared.request.Split.{Split}
 use Rattle.databases.specs.Print.{batch_line}
-use Rattle.file_reports.specs.Reports.{SpellAll}
-use Rattle.file_reports.specs.Shelves.{AreContents}
+use Rattle.event_files.specs.Files.{SpellAll}
+use Rattle.event_files.specs.Shelves.{AreContents}
 use Rattle.parts.specs.Part.{part, part_of}
 use Rattle.views.specs.Line.{kind_lines}
 use Rattle.site_commands.specs.Lines.{file_line}
@@ -55,8 +55,8 @@ SpellFiles C has_lines files events = (contents : List (List ℕ))
     × AreContents C files contents × SpellAll (pieces_of has_lines contents) events
 
 -- a line for each part, as `["PREFIX0.json",12]`
-abbrev pub part_lines : Split → List EventValue → List ℕ
-part_lines asked events = kind_lines (part_counts asked events asked.count)
+abbrev pub part_count_lines : Split → List EventValue → List ℕ
+part_count_lines asked events = kind_lines (part_counts asked events asked.count)
 
 -- the line that names the file of a part that wasn't saved
 abbrev pub unsaved_line : Split → ℕ → List ℕ
@@ -65,7 +65,7 @@ unsaved_line asked i = file_line (part_name asked.prefix i) (codes "cannot write
 -- the files were read, and the text has the line of each part of their events
 abbrev pub AnswersSplit : (List ℕ → List ℕ → Type 0) → Split → List ℕ → Type 0
 AnswersSplit C asked text = (events : List EventValue)
-    × SpellFiles C asked.has_lines asked.files events × (text ≡ part_lines asked events)
+    × SpellFiles C asked.has_lines asked.files events × (text ≡ part_count_lines asked events)
 
 -- the files were read, and the line names a part's file
 abbrev pub RefusesSplit : (List ℕ → List ℕ → Type 0) → Split → List ℕ → Type 0
@@ -80,7 +80,7 @@ RefusesSplit C asked text = (events : List EventValue)
 abbrev pub EndsParts : Split → List EventValue → Option (List Output) → Option (List Output)
     → Ending → Type 0
 EndsParts asked events old new (ending.Answer text) =
-    (text ≡ part_lines asked events) × GrewBy old new (part_files asked events asked.count)
+    (text ≡ part_count_lines asked events) × GrewBy old new (part_files asked events asked.count)
 EndsParts asked events old new (ending.Unsaved text hint) = (i : ℕ) × (i < asked.count)
     × (text ≡ unsaved_line asked i) × GrewBy old new (files_to asked events i)
 EndsParts asked events old new ending.NoMemory = (i : ℕ) × (i < asked.count)

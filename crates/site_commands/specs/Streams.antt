@@ -2,9 +2,9 @@
 -- name isn't read.
 use Rattle.std.specs.Prelude.{◌≡◌, ◌≢◌, ◌⊎◌, ℕ, zero, suc, List, Option, Some}
 use Rattle.std.specs.Io.KnownBytes.{IsAtEnd, Keeps}
-use Rattle.file_reports.specs.declared.input.Unread.{Unread}
-use Rattle.file_reports.specs.declared.input.Unread.TheVariants as unread
-use Rattle.file_reports.specs.declared.shelf.UnreadAt.{UnreadAt}
+use Rattle.event_files.specs.declared.input.Unread.{Unread}
+use Rattle.event_files.specs.declared.input.Unread.TheVariants as unread
+use Rattle.event_files.specs.declared.shelf.UnreadAt.{UnreadAt}
 use Rattle.line_intake.specs.Acknowledged.{AreTold, TellsAll, TellsPart, TellsSome}
 use Rattle.line_intake.specs.Judged.{faults_in}
 use Rattle.line_intake.specs.declared.answer.Told.{Told}
@@ -58,9 +58,9 @@ unread_of line.OutOfMemory = record { file = 0; why = unread.OutOfMemory }
 unread_of line.CannotRead = record { file = 0; why = unread.CannotRead }
 
 -- a stream that came to the end of its input, with so many lines at fault
-abbrev pub end_of : ℕ → StreamEnd
-end_of zero = end.Done
-end_of (suc faults) = end.Refused (refusal.Lines (suc faults))
+abbrev pub end_of_stream : ℕ → StreamEnd
+end_of_stream zero = end.Done
+end_of_stream (suc faults) = end.Refused (refusal.Lines (suc faults))
 
 -- a stream that stopped before, for this fault
 abbrev pub end_at : StreamFault → StreamEnd

@@ -1,14 +1,14 @@
 //! What the feeds of a run read: each file as it is, or the events of its lines as one batch.
 ghost use Rattle.std.specs.Prelude.{◌≡◌, ◌<◌, ◌+◌, ◌^◌, ◌++◌, List, length, IfErr, IfOk, OnOk, true};
 ghost use Rattle.attributes.specs.Event.{EventValue};
-ghost use Rattle.site_commands.specs.Jobs.{AreBatches, AreFeeds, IsBatchOf, IsFeedFault, SpellLines};
+ghost use Rattle.site_commands.specs.Jobs.{AreBatches, AreFeeds, IsBatchOf, IsLineFeedFault, SpellLines};
 ghost use Rattle.site_commands.specs.Pieces.{line_at, lines_behind, lines_from, lines_of};
 ghost use Rattle.site_commands.specs.steps.Feeds.{HasNoFeeds};
 
 use crate::pieces::{LineAt, RefusedLine, first_line, is_blank};
 use attributes::{Events, List, Octets};
+use event_files::ReportFault;
 use event_json::{ReadFault, read_events, write_batch};
-use file_reports::ReportFault;
 use std::alloc::{AllocError, Global};
 
 /// Why feeds have nothing to read.
@@ -50,7 +50,7 @@ fn add_line(
     requires { before + 1 < 2 ^ 64 }
     ensures ok { OnOk result ((own : List EventValue)
         × SpellLines (line_at file before line.now) own × (events.new ≡ events.old ++ own)) }
-    ensures err { IfErr result (IsFeedFault (line_at file before line.now)) }
+    ensures err { IfErr result (IsLineFeedFault (line_at file before line.now)) }
 {
     if is_blank(line) {
         return Ok(());
@@ -74,7 +74,7 @@ fn add_line(
 /// The batch of the events of a file's lines.
 fn batch_of(alloc: Global, file: u64, bytes: &[u8]) -> Result<Octets, FeedFault>
     ensures ok { IfOk result (IsBatchOf file bytes.now) }
-    ensures err { IfErr result (IsFeedFault (lines_from file 0 (lines_of bytes.now))) }
+    ensures err { IfErr result (IsLineFeedFault (lines_from file 0 (lines_of bytes.now))) }
 {
     let mut events = List::empty(alloc);
     let mut left = Some(bytes);
@@ -94,7 +94,7 @@ fn batch_of(alloc: Global, file: u64, bytes: &[u8]) -> Result<Octets, FeedFault>
 fn batches_of(alloc: Global, contents: Vec<Octets>, first: u64) -> Result<List<Octets>, FeedFault>
     requires { first + length contents.items < 2 ^ 64 }
     ensures ok { IfOk result (AreBatches first contents.items) }
-    ensures err { IfErr result (IsFeedFault (lines_behind first contents.items)) }
+    ensures err { IfErr result (IsLineFeedFault (lines_behind first contents.items)) }
 {
     let mut batches = List::empty(alloc);
     let mut file = first;

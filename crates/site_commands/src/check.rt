@@ -14,8 +14,8 @@ use crate::refusal::refusal_line;
 use attributes::{Octets, Text};
 use command_words::Check;
 use databases::{Databases, Trouble, trouble_line};
+use event_files::{Shelf, Unread, UnreadAt};
 use fault_lines::fault_lines;
-use file_reports::{Shelf, Unread, UnreadAt};
 use std::alloc::{AllocError, Global};
 
 /// What is told of a database.

@@ -1,7 +1,7 @@
 //! The command that makes the answer of a whole region from the answers of its parts.
 ghost use Rattle.std.specs.Prelude.{◌≡◌, ℕ, IfErr, IfOk, false, map, if◌then◌else◌};
 ghost use Rattle.site_commands.specs.Lines.{name_at, unread_line};
-ghost use Rattle.site_commands.specs.Parts.{IsCombineEnding, IsNoText, IsOfCovers, IsOverlapOf, IsWhole, RefusesContents, combine_line, count_line, covers_beside, has_covers, no_answer, overlap_line};
+ghost use Rattle.site_commands.specs.Parts.{IsCombineEnding, IsNoText, IsOfCovers, IsOverlapOf, IsWholeOfFiles, RefusesContents, combine_line, count_line, covers_beside, has_covers, no_answer, overlap_line};
 ghost use Rattle.site_commands.specs.steps.Combines.{IsContentsEnding, IsRefusalLine};
 ghost use Rattle.site_commands.specs.declared.combine.TextFault.TheVariants as text;
 
@@ -14,8 +14,8 @@ use crate::progress::Progress;
 use attributes::{Octets, Text};
 use command_words::Combine;
 use databases::Databases;
-use file_reports::{UnreadAt, contents_of};
-use parts::{CombineFault, combine};
+use event_files::{UnreadAt, contents_of};
+use parts::{CombineFault, combine, has_covers, no_answer};
 use std::alloc::{AllocError, AllocFailed, Global};
 use views::Query;
 
@@ -72,16 +72,6 @@ pub fn ending_of_combine<S: Looks, D: Databases + Drop, P: Progress>(
             Err(at) => ending_of_unread(alloc, shelf, databases, progress, cover_files, at),
         },
         Err(at) => ending_of_unread(alloc, shelf, databases, progress, files, at),
-    }
-}
-
-/// Whether the covers of the parts stand beside their answers to the question.
-fn has_covers(query: Query) -> bool
-    ensures { result ≡ has_covers query }
-{
-    match query {
-        Query::Cover | Query::Shown => false,
-        Query::Conflicts | Query::Latest | Query::Kinds | Query::Days | Query::Gaps => true,
     }
 }
 
@@ -167,7 +157,7 @@ fn combine_contents(
     answers: &[Octets],
     covers: &[Octets],
 ) -> Result<Text, Blamed>
-    ensures whole { IfOk result (IsWhole query answers.now covers.now) }
+    ensures whole { IfOk result (IsWholeOfFiles query answers.now covers.now) }
     ensures refused { IfErr result (λ b. RefusesContents query answers.now covers.now b.fault) }
     ensures blamed { IfErr result (λ b. IsOfCovers query covers.now b.fault b.is_of_covers) }
 {
@@ -200,16 +190,6 @@ fn of_answers(fault: CombineFault) -> Blamed
     }
 }
 
-/// The fault of an answer that is none to the question.
-fn no_answer(query: Query, part: u64) -> CombineFault
-    ensures { result ≡ no_answer query part }
-{
-    match query {
-        Query::Cover => CombineFault::NotACover { part },
-        _ => CombineFault::NotAnAnswer { part },
-    }
-}
-
 /// The contents as texts.
 fn texts_in<'a>(alloc: Global, contents: &'a [Octets]) -> Result<Vec<&'a str>, TextFault>
     ensures ok { IfOk result (λ texts. map (λ t. t.now) texts.items ≡ contents.now) }
@@ -232,7 +212,7 @@ fn combine_texts(
     answers: &[&str],
     covers: &[&str],
 ) -> Result<Text, Blamed>
-    ensures whole { IfOk result (IsWhole query
+    ensures whole { IfOk result (IsWholeOfFiles query
         (map (λ t. t.now) answers.now) (map (λ t. t.now) covers.now)) }
     ensures refused { IfErr result (λ b. RefusesContents query
         (map (λ t. t.now) answers.now) (map (λ t. t.now) covers.now) b.fault) }

@@ -1,12 +1,12 @@
 //! The commands over a database.
-ghost use Rattle.std.specs.Prelude.{◌≡◌, ◌≤◌, IfErr, IfOk, IfSome, false, length, true};
-ghost use Rattle.attributes.specs.Character.{is_filled};
+ghost use Rattle.std.specs.Prelude.{◌≡◌, ◌≤◌, IfErr, IfOk, IfSome, false};
 ghost use Rattle.attributes.specs.Sequence.{max_sequence};
 ghost use Rattle.databases.specs.Fault.{IsOfOrder, OrOfNamed};
 ghost use Rattle.databases.specs.Held.{IsNoOrders, IsNoRows, IsUntold, SaysSummary};
 ghost use Rattle.databases.specs.Service.{SaysService};
-ghost use Rattle.site_commands.specs.Answers.{AnswersDelta, AnswersOrder, AnswersTake, HasSummary, IsAllowedRequest, IsOfDatabase, RefusesDelta, RefusesTake, SaysArrived, SaysLacking, SaysPages, SaysRelay, status_of};
+ghost use Rattle.site_commands.specs.Answers.{AnswersDelta, AnswersOrder, AnswersTake, HasSummary, IsAllowedRequest, IsOfDatabase, RefusesDelta, RefusesTake, SaysArrived, SaysLacking, SaysPages, SaysRelay, status_by_action};
 ghost use Rattle.site_commands.specs.Printed.{printed};
+ghost use Rattle.outbox.specs.Shown.{IsSource};
 
 use crate::line::Refusal;
 use crate::pieces::{Pieces, pieces_of, refusal_at};
@@ -15,7 +15,7 @@ use attributes::Text;
 use command_words::{Action, Pages, Request};
 use coverage::Summary;
 use databases::{CommandFault, Databases, Relayed, Status, summary_of};
-use file_reports::{EventReader, Shelf, UnreadAt, events_of};
+use event_files::{EventReader, Shelf, UnreadAt, events_of};
 use inbox_table::Watch;
 use std::alloc::Global;
 use std::mem;
@@ -175,7 +175,7 @@ pub fn summary<D: Databases>(alloc: Global, databases: &D, db: &str) -> Result<T
 
 /// The status that an order gets by what is done with it.
 fn status_of(action: Action) -> Status
-    ensures { result ≡ status_of action }
+    ensures { result ≡ status_by_action action }
 {
     match action {
         Action::Place => Status::Placed,
@@ -193,7 +193,7 @@ pub fn service<D: Databases>(
     is_source_named: bool,
     base: Option<u64>,
 ) -> Result<Text, Refusal>
-    requires source { (is_filled source.now ≡ true) × (length source.now ≤ 1024) }
+    requires source { IsSource source.now }
     requires base { IfSome base (λ n. n ≤ max_sequence) }
     ensures ok { IfOk result (SaysService is_source_named source.now base) }
     ensures err { IfErr result (IsOfDatabase IsNoOrders) }

@@ -2,9 +2,9 @@
 ghost use Rattle.std.specs.Prelude.{◌≡◌, List, ℕ, IfSome, IsNone};
 ghost use Rattle.std.specs.Io.KnownBytes.{Appends};
 ghost use Rattle.line_intake.specs.Written.{Wrote};
-ghost use Rattle.site_commands.specs.Endings.{Ends, EndsPages, Grows, SaysRefusal, Writes};
+ghost use Rattle.site_commands.specs.Endings.{Ends, EndsPages, GrowsBy, SaysRefusal, Writes};
 ghost use Rattle.site_commands.specs.Names.{lent};
-ghost use Rattle.site_commands.specs.Runs.{IsLine, IsTold};
+ghost use Rattle.site_commands.specs.Runs.{IsLine, IsToldBeside};
 
 use crate::hint::Hint;
 use crate::line::{Refusal, line_of, made_lines};
@@ -128,7 +128,7 @@ fn print<W: Write>(to: &mut W, text: &str, status: u8) -> u8
 
 /// Writes what was made, as far as it can be written.
 fn tell<E: Write>(err: &mut E, made: &str)
-    ensures { Grows (E.contents err.old) (E.contents err.new) made.now }
+    ensures { GrowsBy (E.contents err.old) (E.contents err.new) made.now }
 {
     let _told = put(err, made.as_bytes());
 }
@@ -178,7 +178,7 @@ pub fn answered(
     is_file_made: bool,
     is_service_made: bool,
 ) -> Ending
-    ensures { IsTold db.now is_file_made is_service_made text result }
+    ensures { IsToldBeside db.now is_file_made is_service_made text result }
 {
     if !is_file_made && !is_service_made {
         return Ending::Answer(text);

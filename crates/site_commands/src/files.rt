@@ -5,7 +5,7 @@ ghost use Rattle.site_commands.specs.Inputs.{MayBeRead, MayBeUnread, MayGive};
 use crate::look::{LOOKED, Look, look_of};
 use crate::progress::Progress;
 use attributes::Octets;
-use file_reports::{Shelf, Unread, read_all};
+use event_files::{Shelf, Unread, read_all};
 use std::alloc::Global;
 use std::cell::Cell;
 use std::fs::File;

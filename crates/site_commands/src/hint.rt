@@ -8,8 +8,8 @@ use crate::progress::Progress;
 use attributes::Text;
 use coverage::SummaryFault;
 use databases::{CommandFault, Databases, Trouble};
+use event_files::{ReportFault, Unread};
 use event_json::ReadFault;
-use file_reports::{ReportFault, Unread};
 use std::alloc::Global;
 
 /// What can be done about a refusal.

@@ -3,15 +3,15 @@ ghost use Rattle.std.specs.Prelude.{◌≡◌, ◌<◌, ◌++◌, [], ◌∷◌,
 ghost use Rattle.std.specs.Char.{digit_char};
 ghost use Rattle.line_intake.specs.Words.{words_of};
 ghost use Rattle.site_commands.specs.Names.{lent};
-ghost use Rattle.site_commands.specs.Lines.{database_line, fault_line, file_line, line_name, line_of, lines_line, made_lines, name_char, order_line, other_char, printed_name, summary_line, unread_line};
+ghost use Rattle.site_commands.specs.Lines.{database_fault_line, file_fault_line, file_line, line_name, line_of, lines_line, made_lines, name_char, order_line, other_char, printed_name, summary_fault_line, unread_line};
 
 use crate::names::Names;
 use crate::pieces::RefusedLine;
 use attributes::Text;
 use coverage::SummaryFault;
 use databases::CommandFault;
+use event_files::{Refused, ReportFault, Unread, UnreadAt};
 use event_json::ReadFault;
-use file_reports::{Refused, ReportFault, Unread, UnreadAt};
 use line_intake::words_of;
 use std::alloc::{AllocError, Global};
 
@@ -109,7 +109,7 @@ fn unread_line(alloc: Global, name: &str, why: Unread) -> Result<Text, AllocErro
 
 /// The line of a file at fault.
 fn fault_line(alloc: Global, name: &str, fault: ReportFault) -> Result<Text, AllocError>
-    ensures { IfOk result (λ text. text ≡ fault_line name.now fault) }
+    ensures { IfOk result (λ text. text ≡ file_fault_line name.now fault) }
 {
     match fault {
         ReportFault::OutOfMemory => Text::of(alloc, "site: out of memory\n"),
@@ -140,7 +140,7 @@ fn lines_line(alloc: Global, faults: u64) -> Result<Text, AllocError>
 
 /// The line of a summary at fault.
 fn summary_line(alloc: Global, name: &str, why: SummaryFault) -> Result<Text, AllocError>
-    ensures { IfOk result (λ text. text ≡ summary_line name.now why) }
+    ensures { IfOk result (λ text. text ≡ summary_fault_line name.now why) }
 {
     match why {
         SummaryFault::OutOfMemory => Text::of(alloc, "site: out of memory\n"),
@@ -159,7 +159,7 @@ fn database_line(
     number: u64,
     why: CommandFault,
 ) -> Result<Text, AllocError>
-    ensures { IfOk result (λ text. text ≡ database_line db.now number why) }
+    ensures { IfOk result (λ text. text ≡ database_fault_line db.now number why) }
 {
     match why {
         CommandFault::OutOfMemory => Text::of(alloc, "site: out of memory\n"),
@@ -179,7 +179,7 @@ fn database_line(
     }
 }
 
-/// `site: order N: NAME`
+/// The error line of a refused order, by its number and the name of the fault: `site: order N: NAME`
 fn order_line(alloc: Global, number: u64, name: &str) -> Result<Text, AllocError>
     ensures { IfOk result (λ text. text ≡ order_line number name.now) }
 {

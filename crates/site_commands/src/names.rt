@@ -1,7 +1,7 @@
 //! What a plan names, for the lines that say why it has no answer.
 ghost use Rattle.std.specs.Prelude.{◌≡◌, [], unwrap_or};
 ghost use Rattle.site_commands.specs.Lines.{name_at};
-ghost use Rattle.site_commands.specs.Names.{lent, of_check, of_follow, of_number, of_once, of_run, of_split};
+ghost use Rattle.site_commands.specs.Names.{lent, of_check, names_of_follow, of_number, of_once, of_run, of_split};
 
 use attributes::Text;
 use command_words::{Check, Follow, Number, Once, Run, Split};
@@ -83,7 +83,7 @@ impl<'a> Names<'a> {
 
     /// What a stream names.
     pub fn of_follow(plan: &'a Follow) -> Names<'a>
-        ensures { lent result ≡ of_follow plan.now }
+        ensures { lent result ≡ names_of_follow plan.now }
     {
         Names {
             db: plan.db.as_str(),

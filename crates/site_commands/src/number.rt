@@ -12,7 +12,7 @@ use crate::progress::Progress;
 use crate::stream::{StreamEnd, end_of, unread_of};
 use command_words::Number;
 use databases::{CommandFault, Databases};
-use file_reports::UnreadAt;
+use event_files::UnreadAt;
 use number_lines::{NumberEnd, Numberers, NumberingFault};
 use number_table::NumbererFault;
 use std::alloc::Global;

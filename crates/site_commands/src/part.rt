@@ -3,9 +3,9 @@ ghost use Rattle.std.specs.Prelude.{◌≡◌, ◌<◌, IfErr, IfOk, IfSome, Non
 ghost use Rattle.coverage.specs.Summary.{sources_of};
 ghost use Rattle.databases.specs.Print.{batch_line};
 ghost use Rattle.inbox.specs.Sets.{set_of};
-ghost use Rattle.parts.specs.Part.{IsCount, part, part_of};
+ghost use Rattle.parts.specs.Part.{IsCountOfParts, part, part_of};
 ghost use Rattle.views.specs.Line.{kind_lines};
-ghost use Rattle.site_commands.specs.Answers.{RefusesQuery};
+ghost use Rattle.site_commands.specs.Answers.{RefusesFiles, RefusesQuery};
 ghost use Rattle.site_commands.specs.Parts.{AnswersPart, SaysSources, placed};
 ghost use Rattle.site_commands.specs.Splits.{SpellFiles};
 
@@ -13,8 +13,9 @@ use crate::line::Refusal;
 use crate::pieces::{Pieces, memory_refusal, pieces_of, refusal_at};
 use attributes::{Batch, Text};
 use coverage::Summary;
+use event_files::{EventReader, Shelf, events_of};
 use event_json::write_sequenced;
-use file_reports::{EventReader, Shelf, events_of, site_of};
+use file_reports::site_of;
 use parts::{part_of, split};
 use site::Site;
 use std::alloc::{AllocError, Global};
@@ -32,13 +33,12 @@ pub fn part<S: Shelf, F: EventReader>(
     files: &[Text],
     has_lines: bool,
 ) -> Result<Text, Refusal>
-    requires count { IsCount count }
+    requires count { IsCountOfParts count }
     requires below { IfSome place (λ i. i < count) }
     requires reader { F.can_read reader.now }
     ensures ok { IfOk result
         (AnswersPart (S.is_content shelf.now) count place has_lines files.now) }
-    ensures err { IfErr result
-        (RefusesQuery (S.is_content shelf.now) (S.is_unread shelf.now) has_lines None files.now) }
+    ensures err { IfErr result (RefusesFiles (S.is_content shelf.now) (S.is_unread shelf.now) has_lines files.now) }
 {
     match place {
         Some(place) => events_of_part(alloc, shelf, reader, count, place, files, has_lines),
@@ -56,12 +56,11 @@ fn parts_of_sources<S: Shelf, F: EventReader>(
     files: &[Text],
     has_lines: bool,
 ) -> Result<Text, Refusal>
-    requires count { IsCount count }
+    requires count { IsCountOfParts count }
     requires reader { F.can_read reader.now }
     ensures ok { IfOk result
         (AnswersPart (S.is_content shelf.now) count None has_lines files.now) }
-    ensures err { IfErr result
-        (RefusesQuery (S.is_content shelf.now) (S.is_unread shelf.now) has_lines None files.now) }
+    ensures err { IfErr result (RefusesFiles (S.is_content shelf.now) (S.is_unread shelf.now) has_lines files.now) }
 {
     match pieces_of(alloc, shelf, files, has_lines) {
         Ok(Pieces { texts, places }) => match site_of(alloc, reader, texts) {
@@ -88,13 +87,12 @@ fn events_of_part<S: Shelf, F: EventReader>(
     files: &[Text],
     has_lines: bool,
 ) -> Result<Text, Refusal>
-    requires count { IsCount count }
+    requires count { IsCountOfParts count }
     requires below { place < count }
     requires reader { F.can_read reader.now }
     ensures ok { IfOk result
         (AnswersPart (S.is_content shelf.now) count (Some place) has_lines files.now) }
-    ensures err { IfErr result
-        (RefusesQuery (S.is_content shelf.now) (S.is_unread shelf.now) has_lines None files.now) }
+    ensures err { IfErr result (RefusesFiles (S.is_content shelf.now) (S.is_unread shelf.now) has_lines files.now) }
 {
     match events_of_files(alloc, shelf, reader, files, has_lines) {
         Ok(events) => match part_line(alloc, events, count, place) {
@@ -115,8 +113,7 @@ pub(crate) fn events_of_files<S: Shelf, F: EventReader>(
 ) -> Result<Batch, Refusal>
     requires { F.can_read reader.now }
     ensures ok { IfOk result (SpellFiles (S.is_content shelf.now) has_lines files.now) }
-    ensures err { IfErr result
-        (RefusesQuery (S.is_content shelf.now) (S.is_unread shelf.now) has_lines None files.now) }
+    ensures err { IfErr result (RefusesFiles (S.is_content shelf.now) (S.is_unread shelf.now) has_lines files.now) }
 {
     match pieces_of(alloc, shelf, files, has_lines) {
         Ok(Pieces { texts, places }) => match events_of(alloc, reader, texts.as_slice()) {
@@ -129,7 +126,7 @@ pub(crate) fn events_of_files<S: Shelf, F: EventReader>(
 
 /// The batch of the events whose sources fall to the part at a place, as a line.
 fn part_line(alloc: Global, events: Batch, count: u64, place: u64) -> Result<Text, AllocError>
-    requires count { IsCount count }
+    requires count { IsCountOfParts count }
     requires below { place < count }
     ensures { IfOk result (λ text. text ≡ batch_line (part (part_of count) place events)) }
 {
@@ -148,7 +145,7 @@ pub(crate) fn batch_line(alloc: Global, events: &Batch) -> Result<Text, AllocErr
 
 /// A line for each source of a site's events: the source, and its part.
 fn source_lines(alloc: Global, events: &Site, count: u64) -> Result<Text, AllocError>
-    requires { IsCount count }
+    requires { IsCountOfParts count }
     ensures { IfOk result (SaysSources count (set_of events.now)) }
 {
     match events.query(Query::Cover)? {
@@ -159,7 +156,7 @@ fn source_lines(alloc: Global, events: &Site, count: u64) -> Result<Text, AllocE
 
 /// A line for each source of a summary.
 fn placed_lines(alloc: Global, summary: &Summary, count: u64) -> Result<Text, AllocError>
-    requires { IsCount count }
+    requires { IsCountOfParts count }
     ensures { IfOk result (λ text. text ≡ kind_lines (placed count (sources_of summary.now))) }
 {
     // A text and a number are written as in a line of `kinds`.
@@ -169,7 +166,7 @@ fn placed_lines(alloc: Global, summary: &Summary, count: u64) -> Result<Text, Al
 
 /// The sources of a summary, each with its part.
 fn placed(alloc: Global, summary: &Summary, count: u64) -> Result<Kinds, AllocError>
-    requires { IsCount count }
+    requires { IsCountOfParts count }
     ensures { IfOk result (λ rows. rows ≡ placed count (sources_of summary.now)) }
 {
     let mut rows = Kinds::empty(alloc);

@@ -1,15 +1,15 @@
 //! What is judged of files: each as a whole, or each of their lines as a file of its own.
 ghost use Rattle.std.specs.Prelude.{◌≡◌, ◌==◌, ◌<◌, ◌+◌, ◌^◌, ◌++◌, ◌∷◌, [], List, ℕ, IfErr, IfOk, IfSome, OnOk, length, position};
 ghost use Rattle.std.specs.Option.{option_map_or};
-ghost use Rattle.file_reports.specs.Reports.{IsRefusal};
-ghost use Rattle.file_reports.specs.Shelves.{IsUnreadAt};
+ghost use Rattle.event_files.specs.Files.{IsRefusal};
+ghost use Rattle.event_files.specs.Shelves.{IsUnreadAt};
 ghost use Rattle.site_commands.specs.Lines.{line_names};
-ghost use Rattle.site_commands.specs.Pieces.{ArePieces, IsRefused, file_lines, is_blank, is_white, line_at, lines_from, lines_of, pieces_of, places_in, places_of, texts_of};
+ghost use Rattle.site_commands.specs.Pieces.{ArePieces, IsInputRefused, file_lines, is_blank, is_white, line_at, lines_from, lines_of, pieces_of, places_in, places_of_lines, bytes_of_lines};
 
 use crate::line::{Refusal, line_name};
 use crate::names::name_at;
 use attributes::{Octets, Text, Texts};
-use file_reports::{Refused, ReportFault, Shelf, Unread, UnreadAt, contents_of};
+use event_files::{Refused, ReportFault, Shelf, Unread, UnreadAt, contents_of};
 use std::alloc::{AllocError, Global};
 
 /// Which line of which file.
@@ -85,9 +85,9 @@ impl Pieces {
     fn add(&mut self, alloc: Global, file: u64, before: u64, line: &[u8]) -> Result<(), AllocError>
         requires { before + 1 < 2 ^ 64 }
         ensures texts { OnOk result (self.new.texts.items
-            ≡ self.old.texts.items ++ texts_of (line_at file before line.now)) }
+            ≡ self.old.texts.items ++ bytes_of_lines (line_at file before line.now)) }
         ensures places { OnOk result (self.new.places.items
-            ≡ self.old.places.items ++ places_of (line_at file before line.now)) }
+            ≡ self.old.places.items ++ places_of_lines (line_at file before line.now)) }
     {
         if is_blank(line) {
             return Ok(());
@@ -103,9 +103,9 @@ impl Pieces {
     /// Adds the lines of a file.
     fn add_file(&mut self, alloc: Global, file: u64, bytes: &[u8]) -> Result<(), AllocError>
         ensures texts { OnOk result (self.new.texts.items
-            ≡ self.old.texts.items ++ texts_of (lines_from file 0 (lines_of bytes.now))) }
+            ≡ self.old.texts.items ++ bytes_of_lines (lines_from file 0 (lines_of bytes.now))) }
         ensures places { OnOk result (self.new.places.items
-            ≡ self.old.places.items ++ places_of (lines_from file 0 (lines_of bytes.now))) }
+            ≡ self.old.places.items ++ places_of_lines (lines_from file 0 (lines_of bytes.now))) }
     {
         let mut left = Some(bytes);
         let mut before: u64 = 0;
@@ -121,8 +121,8 @@ impl Pieces {
 
 /// The lines of all files. The bytes of a file are given back before those of the next are cut.
 fn file_lines(alloc: Global, contents: Vec<Octets>) -> Result<Pieces, AllocError>
-    ensures texts { IfOk result (λ p. p.texts.items ≡ texts_of (file_lines contents.items)) }
-    ensures places { IfOk result (λ p. p.places.items ≡ places_of (file_lines contents.items)) }
+    ensures texts { IfOk result (λ p. p.texts.items ≡ bytes_of_lines (file_lines contents.items)) }
+    ensures places { IfOk result (λ p. p.places.items ≡ places_of_lines (file_lines contents.items)) }
 {
     // Their count bounds that of those that were cut.
     let _count = contents.len();
@@ -182,7 +182,7 @@ pub fn pieces_of<S: Shelf>(
 pub fn refusal_at(has_lines: bool, places: &[LineAt], refused: Refused) -> Refusal
     ensures { (contents : List (List ℕ)) → places.now ≡ places_in has_lines contents
         → IsRefusal (pieces_of has_lines contents) refused
-        → IsRefused has_lines contents result }
+        → IsInputRefused has_lines contents result }
 {
     if !has_lines {
         return Refusal::File(refused);
@@ -199,7 +199,7 @@ pub fn refusal_at(has_lines: bool, places: &[LineAt], refused: Refused) -> Refus
 
 /// The refusal for want of memory of what is judged of files.
 pub fn memory_refusal(has_lines: bool) -> Refusal
-    ensures { (contents : List (List ℕ)) → IsRefused has_lines contents result }
+    ensures { (contents : List (List ℕ)) → IsInputRefused has_lines contents result }
 {
     let fault = ReportFault::OutOfMemory;
     if has_lines {

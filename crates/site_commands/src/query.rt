@@ -1,12 +1,13 @@
 //! The commands that ask a question about the events of files.
 ghost use Rattle.std.specs.Prelude.{◌≡◌, IfErr, IfOk, None, Some};
-ghost use Rattle.site_commands.specs.Answers.{AnswersQuery, RefusesQuery};
+ghost use Rattle.site_commands.specs.Answers.{AnswersQuery, RefusesFiles, RefusesQuery};
 
 use crate::line::Refusal;
 use crate::pieces::{Pieces, pieces_of, refusal_at};
 use attributes::Text;
 use databases::{CommandFault, Databases};
-use file_reports::{EventReader, Query, Shelf, report, report_with, site_of};
+use event_files::{EventReader, Shelf};
+use file_reports::{Query, report, report_with, site_of};
 use std::alloc::Global;
 use std::mem;
 
@@ -50,8 +51,7 @@ fn ask_files<S: Shelf, F: EventReader>(
     requires { F.can_read reader.now }
     ensures ok { IfOk result
         (AnswersQuery (S.is_content shelf.now) query has_lines None files.now) }
-    ensures err { IfErr result
-        (RefusesQuery (S.is_content shelf.now) (S.is_unread shelf.now) has_lines None files.now) }
+    ensures err { IfErr result (RefusesFiles (S.is_content shelf.now) (S.is_unread shelf.now) has_lines files.now) }
 {
     match pieces_of(alloc, shelf, files, has_lines) {
         Ok(Pieces { texts, places }) => match report(alloc, reader, query, texts) {

@@ -3,7 +3,7 @@ ghost use Rattle.std.specs.Prelude.{◌≡◌, ◌≤◌, Err, IfErr, IfOk, Matc
 ghost use Rattle.std.specs.Option.{is_some};
 ghost use Rattle.std.specs.Process.{exit_status};
 ghost use Rattle.command_words.specs.Plans.{AreFaulty, AreFew};
-ghost use Rattle.site_commands.specs.Answers.{AnswersOnce, IsAllowed, IsAllowedAlone, IsAllowedPlan, RefusesOnce};
+ghost use Rattle.site_commands.specs.Answers.{AnswersOnce, IsAllowedOnce, IsAllowedAlone, IsAllowedPlan, RefusesOnce};
 ghost use Rattle.site_commands.specs.Inputs.{MayBeRead, MayBeUnread};
 ghost use Rattle.site_commands.specs.Printed.{printed};
 ghost use Rattle.site_commands.specs.declared.printed.Printed.TheVariants as Printed;
@@ -29,7 +29,7 @@ use crate::workers::run;
 use attributes::Text;
 use command_words::{Alone, Faulty, Once, Pages, Plan, Run, invocation};
 use databases::Databases;
-use file_reports::{EventReader, SequentialReader, Shelf};
+use event_files::{EventReader, SequentialReader, Shelf};
 use number_lines::Numberers;
 use parallel_reader::ParallelReader;
 use run_command::Runs;
@@ -289,7 +289,7 @@ fn ending_of<S: Looks, F: EventReader, D: Databases + Drop, P: Progress>(
     plan: &Once,
     progress: &P,
 ) -> Ending
-    requires allowed { IsAllowed plan.now }
+    requires allowed { IsAllowedOnce plan.now }
     requires reader { F.can_read reader.now }
     ensures { IsOnceEnding (S.is_content shelf.now) (S.is_unread shelf.now) plan.now result }
 {
@@ -348,7 +348,7 @@ fn answer_once<S: Shelf, F: EventReader, D: Databases, P: Progress>(
     plan: &Once,
     progress: &P,
 ) -> Result<Printed, Refusal>
-    requires allowed { IsAllowed plan.now }
+    requires allowed { IsAllowedOnce plan.now }
     requires reader { F.can_read reader.now }
     ensures ok { IfOk result (λ p. AnswersOnce (S.is_content shelf.now) plan.now (printed p)) }
     ensures err { IfErr result

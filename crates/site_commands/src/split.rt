@@ -1,12 +1,12 @@
 //! The command that writes the events of a region in parts, a file each.
 ghost use Rattle.std.specs.Prelude.{◌≡◌, ◌<◌, ◌∷◌, [], List, true, IfErr, IfOk, OnOk, length};
 ghost use Rattle.attributes.specs.Event.{EventValue};
-ghost use Rattle.parts.specs.Part.{IsCount};
+ghost use Rattle.parts.specs.Part.{IsCountOfParts};
 ghost use Rattle.views.specs.Line.{kind_lines};
 ghost use Rattle.site_commands.specs.Outputs.{GrewBy};
 ghost use Rattle.site_commands.specs.Runs.{IsSplitEnding};
-ghost use Rattle.site_commands.specs.Splits.{EndsParts, file_of, part_counts, part_files, part_lines, part_name, unsaved_line};
-ghost use Rattle.site_commands.specs.steps.Splits.{ArePartsOf, IsUnsavedEnding, RefusesFile, StopsParts};
+ghost use Rattle.site_commands.specs.Splits.{EndsParts, file_of, part_counts, part_files, part_count_lines, part_name, unsaved_line};
+ghost use Rattle.site_commands.specs.steps.Splits.{AreAllParts, IsUnsavedEnding, RefusesFile, StopsParts};
 
 use crate::ending::{Ending, refused};
 use crate::files::Looks;
@@ -19,7 +19,7 @@ use crate::progress::Progress;
 use attributes::{Batch, Text};
 use command_words::Split;
 use databases::Databases;
-use file_reports::EventReader;
+use event_files::EventReader;
 use parts::split;
 use std::alloc::{AllocError, Global};
 use views::{Answer, Kinds, print};
@@ -44,7 +44,7 @@ pub fn ending_of_split<S: Looks, F: EventReader, W: Outputs, D: Databases + Drop
     plan: &Split,
     progress: &P,
 ) -> Ending
-    requires count { IsCount plan.now.count }
+    requires count { IsCountOfParts plan.now.count }
     requires reader { F.can_read reader.now }
     ensures { IsSplitEnding (S.is_content shelf.now) (S.is_unread shelf.now) plan.now
         (W.outputs outputs.old) (W.outputs outputs.new) result }
@@ -67,7 +67,7 @@ fn ending_of_events<W: Outputs, P: Progress>(
     events: Batch,
     progress: &P,
 ) -> Ending
-    requires { IsCount plan.now.count }
+    requires { IsCountOfParts plan.now.count }
     ensures { EndsParts plan.now events (W.outputs outputs.old) (W.outputs outputs.new) result }
 {
     match save_events(alloc, outputs, plan, events) {
@@ -121,8 +121,8 @@ fn save_events<W: Outputs>(
     plan: &Split,
     events: Batch,
 ) -> Result<Text, SplitFault>
-    requires { IsCount plan.now.count }
-    ensures ok { IfOk result (λ text. text ≡ part_lines plan.now events) }
+    requires { IsCountOfParts plan.now.count }
+    ensures ok { IfOk result (λ text. text ≡ part_count_lines plan.now events) }
     ensures files { OnOk result (GrewBy (W.outputs outputs.old) (W.outputs outputs.new)
         (part_files plan.now events plan.now.count)) }
     ensures err { IfErr result (StopsParts plan.now events (W.outputs outputs.old)
@@ -143,7 +143,7 @@ fn save_events<W: Outputs>(
 /// A line for each part: the name of its file, and how many events it has.
 fn part_lines(alloc: Global, plan: &Split, parts: &[Batch]) -> Result<Text, AllocError>
     ensures { IfOk result (λ text. (events : List EventValue)
-        → ArePartsOf plan.now.count events parts.now → text ≡ part_lines plan.now events) }
+        → AreAllParts plan.now.count events parts.now → text ≡ part_count_lines plan.now events) }
 {
     // A text and a number are written as in a line of `kinds`.
     let rows = part_counts(alloc, plan, parts)?;
@@ -153,7 +153,7 @@ fn part_lines(alloc: Global, plan: &Split, parts: &[Batch]) -> Result<Text, Allo
 /// The names of the parts' files, each with how many events it has.
 fn part_counts(alloc: Global, plan: &Split, parts: &[Batch]) -> Result<Kinds, AllocError>
     ensures { IfOk result (λ rows. (events : List EventValue)
-        → ArePartsOf plan.now.count events parts.now
+        → AreAllParts plan.now.count events parts.now
         → rows ≡ part_counts plan.now events plan.now.count) }
 {
     let mut rows = Kinds::empty(alloc);
@@ -172,11 +172,11 @@ fn save_parts<W: Outputs>(
     parts: &[Batch],
 ) -> Result<(), SplitFault>
     ensures ok { OnOk result ((events : List EventValue)
-        → ArePartsOf plan.now.count events parts.now
+        → AreAllParts plan.now.count events parts.now
         → GrewBy (W.outputs outputs.old) (W.outputs outputs.new)
         (part_files plan.now events plan.now.count)) }
     ensures err { IfErr result (λ fault. (events : List EventValue)
-        → ArePartsOf plan.now.count events parts.now
+        → AreAllParts plan.now.count events parts.now
         → StopsParts plan.now events (W.outputs outputs.old) (W.outputs outputs.new) fault) }
 {
     for i in 0..parts.len() {

@@ -1,7 +1,7 @@
 //! The command that keeps lines as they come, and acknowledges each.
 ghost use Rattle.std.specs.Prelude.{◌≡◌, MatchResult};
 ghost use Rattle.site_commands.specs.Endings.{EndsStream};
-ghost use Rattle.site_commands.specs.Streams.{EndsSo, end_at, end_of, unread_of};
+ghost use Rattle.site_commands.specs.Streams.{EndsSo, end_at, end_of_stream, unread_of};
 
 use crate::ending::{DONE, REFUSED, say};
 use crate::files::{Looks, Streams};
@@ -11,7 +11,7 @@ use crate::names::Names;
 use crate::progress::Progress;
 use command_words::Follow;
 use databases::{Databases, StreamFault};
-use file_reports::{Unread, UnreadAt};
+use event_files::{Unread, UnreadAt};
 use line_intake::LineFault;
 use std::alloc::Global;
 use std::io::Write;
@@ -86,7 +86,7 @@ fn kept<S: Streams, D: Databases, O: Write>(
 
 /// How a stream ended for the command: lines at fault are a refusal.
 fn end(ended: Result<u64, StreamFault>) -> StreamEnd
-    ensures { MatchResult ended (λ faults. result ≡ end_of faults) (λ why. result ≡ end_at why) }
+    ensures { MatchResult ended (λ faults. result ≡ end_of_stream faults) (λ why. result ≡ end_at why) }
 {
     match ended {
         Ok(faults) => end_of(faults),
@@ -99,7 +99,7 @@ fn end(ended: Result<u64, StreamFault>) -> StreamEnd
 /// How a stream ended that came to the end of its input, with so many lines at fault.
 #[tactic(auto, using(crate::proofs::StreamLemmas::end_of_some))]
 pub(crate) fn end_of(faults: u64) -> StreamEnd
-    ensures { result ≡ end_of faults }
+    ensures { result ≡ end_of_stream faults }
 {
     if faults == 0 {
         return StreamEnd::Done;

@@ -6,14 +6,14 @@ ghost use Rattle.run_command.specs.Peer.{peer_of};
 ghost use Rattle.site_commands.specs.Answers.{AnswersRun, RefusesRun};
 ghost use Rattle.site_commands.specs.Jobs.{AnswersFeeds, AnswersJobs, ArePeers, RefusesFeeds, RefusesJobs};
 ghost use Rattle.site_commands.specs.Names.{files_of_run};
-ghost use Rattle.site_commands.specs.Pieces.{IsRefused, pieces_of, places_in};
+ghost use Rattle.site_commands.specs.Pieces.{IsInputRefused, pieces_of, places_in};
 
 use crate::batches::{FeedFault, append, feeds_of};
 use crate::line::Refusal;
 use crate::pieces::{Pieces, memory_refusal, pieces_in, refusal_at};
 use attributes::{Batch, List, Octets, Text, Texts};
 use databases::CommandFault;
-use file_reports::{
+use event_files::{
     Refused, ReportFault, SequentialReader, Shelf, Unread, UnreadAt, contents_of, events_of,
 };
 use inbox_table::Watch;
@@ -96,7 +96,7 @@ fn copies(alloc: Global, texts: &[Text]) -> Result<Texts, AllocError>
 /// The peer of this content: a site with its events.
 fn peer_of(alloc: Global, content: Octets, has_lines: bool) -> Result<Site, Refusal>
     ensures ok { IfOk result (λ site. ArePeers true has_lines (content ∷ []) (site ∷ [])) }
-    ensures err { IfErr result (IsRefused has_lines (content ∷ [])) }
+    ensures err { IfErr result (IsInputRefused has_lines (content ∷ [])) }
 {
     let Ok(pieces) = piece_of(alloc, content, has_lines) else {
         return Err(memory_refusal(has_lines));

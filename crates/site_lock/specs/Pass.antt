@@ -3,13 +3,13 @@
 use Rattle.std.specs.Prelude.{◌≡◌, ◌⊎◌, ℕ, ◌+◌, List, [], ◌∷◌, ◌++◌, map}
 use Rattle.atomic_table.specs.Seated.{TableId}
 use Rattle.attributes.specs.Event.{EventValue}
-use Rattle.site.specs.Arrival.{AreDistinct, AreNumbered}
-use Rattle.site.specs.Machine.{Answers, arrivals_after}
+use Rattle.site.specs.Arrival.{AreDistinct, HaveEachNumber}
+use Rattle.site.specs.Machine.{HasRightReply, arrivals_after}
 use Rattle.site.specs.declared.call.Call.{Call}
 use Rattle.turn_lock.specs.declared.machine.Entry.{Entry}
 use Rattle.turn_lock.specs.History.{GoesOnBelow, IsLegal, StartsWith, after, entry, made_by}
 
-pub record Shown : Type 0 where
+pub record ShownPass : Type 0 where
   -- which shared site it is of
   pub table : TableId
   -- the number of the pass, and how many passes were split off it
@@ -23,24 +23,24 @@ pub record Shown : Type 0 where
 
 -- the history is one of a site used by one thread, which opened with these arrivals
 abbrev pub IsHistory : List EventValue → List (Entry Call) → Type 0
-IsHistory opening log = IsLegal arrivals_after Answers opening log
+IsHistory opening log = IsLegal arrivals_after HasRightReply opening log
 
 -- the arrivals after a history
 abbrev pub leave : List EventValue → List (Entry Call) → List EventValue
 leave opening log = after arrivals_after opening log
 
 -- the arrivals after all that the pass has seen
-abbrev pub leaves : Shown → List EventValue
+abbrev pub leaves : ShownPass → List EventValue
 leaves p = leave p.opening p.seen
 
 -- a pass of the same site, number and opening
-pub record IsSame (p q : Shown) : Type 0 where
+pub record IsSamePass (p q : ShownPass) : Type 0 where
   pub table : q.table ≡ p.table
   pub number : q.number ≡ p.number
   pub opening : q.opening ≡ p.opening
 
 -- the first pass of a site with these arrivals
-pub record IsFirst (p : Shown) (site : TableId) (A : List EventValue) : Type 0 where
+pub record IsFirstPass (p : ShownPass) (site : TableId) (A : List EventValue) : Type 0 where
   pub table : p.table ≡ site
   pub number : p.number ≡ []
   pub splits : p.splits ≡ 0
@@ -50,7 +50,7 @@ pub record IsFirst (p : Shown) (site : TableId) (A : List EventValue) : Type 0 w
 
 -- what a pass has seen is legal and has just its own calls under its number; no number there goes
 -- on from its own but one that it gave away; the arrivals after it are there once each
-pub record IsTrueOf (p : Shown) : Type 0 where
+pub record IsTruePass (p : ShownPass) : Type 0 where
   pub legal : IsHistory p.opening p.seen
   pub own : made_by p.number p.seen ≡ p.mine
   pub below : GoesOnBelow p.number p.splits p.seen
@@ -58,26 +58,26 @@ pub record IsTrueOf (p : Shown) : Type 0 where
 
 -- from p to q the pass made the call c: it has seen entries of others, and then its own; the
 -- arrivals after it are events with numbers, each once
-pub record Made (p q : Shown) (c : Call) : Type 0 where
+pub record Made (p q : ShownPass) (c : Call) : Type 0 where
   pub others : List (Entry Call)
   pub foreign : made_by p.number others ≡ []
   pub seen : q.seen ≡ (p.seen ++ others) ++ entry p.number c ∷ []
   pub mine : q.mine ≡ p.mine ++ entry p.number c ∷ []
   pub splits : q.splits ≡ p.splits
-  pub same : IsSame p q
+  pub same : IsSamePass p q
   pub legal : IsHistory q.opening q.seen
   pub distinct : AreDistinct (leaves q)
-  pub numbered : AreNumbered (leaves q)
+  pub numbered : HaveEachNumber (leaves q)
 
 -- from p to q the pass gave a number away, and nothing else changed
-pub record Splits (p q : Shown) : Type 0 where
+pub record Splits (p q : ShownPass) : Type 0 where
   pub seen : q.seen ≡ p.seen
   pub mine : q.mine ≡ p.mine
   pub splits : q.splits ≡ p.splits + 1
-  pub same : IsSame p q
+  pub same : IsSamePass p q
 
 -- the pass q was split off p: it has seen as much, and made no call
-pub record IsSplitOff (p q : Shown) : Type 0 where
+pub record IsSplitOff (p q : ShownPass) : Type 0 where
   pub table : q.table ≡ p.table
   pub number : q.number ≡ p.number ++ p.splits ∷ []
   pub splits : q.splits ≡ 0
@@ -86,17 +86,17 @@ pub record IsSplitOff (p q : Shown) : Type 0 where
   pub mine : q.mine ≡ []
 
 -- p met the pass o and became q: one of the two has seen what the other has, and q the longer
-pub record Meets (p o q : Shown) : Type 0 where
+pub record Meets (p o q : ShownPass) : Type 0 where
   pub longer : (q.seen ≡ p.seen) ⊎ (q.seen ≡ o.seen)
   pub all_own : StartsWith q.seen p.seen
   pub all_others : StartsWith q.seen o.seen
   pub mine : q.mine ≡ p.mine
   pub splits : q.splits ≡ p.splits
-  pub same : IsSame p q
+  pub same : IsSamePass p q
 
 -- the site comes out with these arrivals: a legal history leaves them, which is what the pass has
 -- seen and then entries of others; no number in it goes on from its own but one that it gave away
-pub record Closes (p : Shown) (A : List EventValue) : Type 0 where
+pub record Closes (p : ShownPass) (A : List EventValue) : Type 0 where
   pub others : List (Entry Call)
   pub foreign : made_by p.number others ≡ []
   pub legal : IsHistory p.opening (p.seen ++ others)
@@ -104,8 +104,8 @@ pub record Closes (p : Shown) (A : List EventValue) : Type 0 where
   pub leaves : A ≡ leave p.opening (p.seen ++ others)
 
 -- from p to q the pass made these calls, and may have seen others' between them
-pub record Steps (p q : Shown) (calls : List Call) : Type 0 where
+pub record Steps (p q : ShownPass) (calls : List Call) : Type 0 where
   pub seen : StartsWith q.seen p.seen
   pub mine : q.mine ≡ p.mine ++ map (entry p.number) calls
   pub splits : q.splits ≡ p.splits
-  pub same : IsSame p q
+  pub same : IsSamePass p q

@@ -7,7 +7,7 @@ use Rattle.attributes.specs.EventCode.{event_code}
 use Rattle.site.specs.contracts.call.Call as call
 use Rattle.site.specs.declared.call.Call.{Call}
 use Rattle.turn_lock.specs.declared.machine.Entry.{Entry}
-use Rattle.site_lock.specs.Pass.{Shown}
+use Rattle.site_lock.specs.Pass.{ShownPass}
 
 -- an entry is its number and its call
 abbrev pub entry_code : Coded (Entry Call)
@@ -24,8 +24,8 @@ abbrev fields_code : Coded Fields
 fields_code = coded× table_id_coded (coded× (coded_list coded_ℕ) (coded× coded_ℕ
     (coded× (coded_list event_code) (coded× (coded_list entry_code) (coded_list entry_code)))))
 
-abbrev pub shown_code : Coded Shown
-shown_code =
+abbrev pub shown_pass_code : Coded ShownPass
+shown_pass_code =
     code_by Fields fields_code
     (λ s. (s.table, (s.number, (s.splits, (s.opening, (s.seen, s.mine))))))
     (λ p. record {

@@ -4,12 +4,12 @@ use Rattle.atomic_table.specs.Seated.{TableId}
 use Rattle.atomic_table.specs.Table.{Me}
 use Rattle.attributes.specs.Event.{EventValue}
 use Rattle.site.specs.Arrival.{AreDistinct}
-use Rattle.site.specs.Machine.{Answers, arrivals_after}
+use Rattle.site.specs.Machine.{HasRightReply, arrivals_after}
 use Rattle.site.specs.declared.call.Call.{Call}
 use Rattle.turn_lock.specs.declared.machine.View.{View}
 use Rattle.turn_lock.specs.Turn.{HasTurn, IsIdle}
 use Rattle.site_lock.specs.declared.held.Held.{Held}
-use Rattle.site_lock.specs.Pass.{Shown}
+use Rattle.site_lock.specs.Pass.{ShownPass}
 
 -- the arrivals of the site in its slot
 abbrev pub arrivals_of : Held → List EventValue
@@ -21,15 +21,15 @@ SiteView = View (List EventValue) Call
 abbrev pub Seat : Type 0
 Seat = Me (Option Held) SiteView
 
-abbrev pub number_of : Option (List ℕ) → List ℕ
-number_of None = []
-number_of (Some n) = n
+abbrev pub number_of_pass : Option (List ℕ) → List ℕ
+number_of_pass None = []
+number_of_pass (Some n) = n
 
 -- what the pass shows of its view
-abbrev pub shown : TableId → SiteView → Shown
+abbrev pub shown : TableId → SiteView → ShownPass
 shown table v = record {
   table = table;
-  number = number_of v.number;
+  number = number_of_pass v.number;
   splits = v.splits;
   opening = v.opening;
   seen = v.seen;
@@ -38,10 +38,10 @@ shown table v = record {
 
 -- between calls: it waits for nothing, and the site opened with arrivals that are there once each
 pub record IsAtRest (m : Seat) : Type 0 where
-  pub idle : IsIdle arrivals_of arrivals_after Answers m
+  pub idle : IsIdle arrivals_of arrivals_after HasRightReply m
   pub once : AreDistinct m.0.opening
 
 -- the turn may end with the call c and these arrivals
 abbrev pub MayEnd : Seat → List EventValue → Call → Type 0
-MayEnd m B c = (A : List EventValue) × HasTurn arrivals_of arrivals_after Answers m A
-    × (B ≡ arrivals_after A c) × Answers A c
+MayEnd m B c = (A : List EventValue) × HasTurn arrivals_of arrivals_after HasRightReply m A
+    × (B ≡ arrivals_after A c) × HasRightReply A c

@@ -13,14 +13,14 @@ pub(crate) struct Held {
 
 impl Machine<Batch, Call> for Held {
     ghost use Rattle.std.specs.Prelude.{[]};
-    ghost use Rattle.site.specs.Machine.{Answers, arrivals_after};
+    ghost use Rattle.site.specs.Machine.{HasRightReply, arrivals_after};
     ghost use Rattle.site_lock.specs.Seat.{arrivals_of};
 
     ghost state = { arrivals_of };
 
     ghost next = { arrivals_after };
 
-    ghost fits = { Answers };
+    ghost fits = { HasRightReply };
 
     ghost blank = { [] };
 }

@@ -1,6 +1,6 @@
 //! What a thread uses a shared site with.
 
-ghost use Rattle.site_lock.specs.Pass.{IsTrueOf};
+ghost use Rattle.site_lock.specs.Pass.{IsTruePass};
 
 use crate::held::Held;
 use attributes::Batch;
@@ -16,13 +16,13 @@ pub struct Pass {
 }
 
 impl Model for Pass {
-    ghost use Rattle.site_lock.specs.Pass.{Shown};
-    ghost use Rattle.site_lock.specs.PassCode.{shown_code};
+    ghost use Rattle.site_lock.specs.Pass.{ShownPass};
+    ghost use Rattle.site_lock.specs.PassCode.{shown_pass_code};
     ghost use Rattle.site_lock.specs.Seat.{IsAtRest, shown};
 
-    ghost Value = { Shown };
+    ghost Value = { ShownPass };
 
-    ghost coded = { shown_code };
+    ghost coded = { shown_pass_code };
 
     ghost view = { λ p. shown p.seat.table_id p.seat.me.0 };
 
@@ -34,7 +34,7 @@ impl Pass {
     /// its own calls under its number, and the arrivals after it are there once each. It does
     /// nothing.
     pub fn stands(&self)
-        ensures { IsTrueOf self.now }
+        ensures { IsTruePass self.now }
     {
         let _ = &self.seat;
     }

@@ -1,10 +1,10 @@
 //! The shared site and its passes.
 
 ghost use Rattle.std.specs.Prelude.{◌≡◌, ◌≤◌, length, IfErr, IfOk, IsOk, ℕ, List, Some};
-ghost use Rattle.site.specs.Arrival.{AreDistinct, AreNumbered};
+ghost use Rattle.site.specs.Arrival.{AreDistinct, HaveEachNumber};
 ghost use Rattle.site.specs.declared.call.Call.{Call};
 ghost use Rattle.turn_lock.specs.Turn.{Adds};
-ghost use Rattle.site_lock.specs.Pass.{Closes, IsFirst, IsSplitOff, Meets, Splits, leave};
+ghost use Rattle.site_lock.specs.Pass.{Closes, IsFirstPass, IsSplitOff, Meets, Splits, leave};
 ghost use Rattle.site_lock.specs.Seat.{IsAtRest, MayEnd};
 
 mod answer;
@@ -52,7 +52,7 @@ pub struct NotBegun {
 impl SharedSite {
     /// Shares a site. The first pass has seen nothing. After want of memory the site comes back.
     pub fn begin(alloc: Global, site: Site) -> Result<Begun, NotBegun>
-        ensures begun { IfOk result (λ b. IsFirst b.pass b.shared site) }
+        ensures begun { IfOk result (λ b. IsFirstPass b.pass b.shared site) }
         ensures back { IfErr result (λ n. n.site ≡ site) }
     {
         // The arrivals are there once each.
@@ -128,7 +128,7 @@ impl SharedSite {
         ensures rest { IsAtRest seat.new.me }
         ensures ended { (n : List ℕ) (c : Call) → seat.old.me.0.number ≡ Some n → W.call ≡ Some c
             → Adds n c seat.old.me.0 seat.new.me.0 }
-        ensures numbered { AreNumbered (leave seat.new.me.0.opening seat.new.me.0.seen) }
+        ensures numbered { HaveEachNumber (leave seat.new.me.0.opening seat.new.me.0.seen) }
     {
         let _ = command;
         let _ = reply;

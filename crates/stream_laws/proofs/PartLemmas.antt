@@ -18,17 +18,17 @@ use Rattle.inbox.proofs.OrderLemmas.{key_cmp_total}
 use Rattle.inbox.proofs.SetLemmas.{all-add_all, all-in_order, append_new-append, has-add_all, has-in_order, in_order-append_new, same_sets, sorted-add_all, sorted-in_order}
 use Rattle.inbox_table.specs.Calls.{joined}
 use Rattle.block_digests.specs.Lacking.{is_missing, lacking}
-use Rattle.block_digests.specs.Number.{AreNumbered}
+use Rattle.block_digests.specs.Number.{HaveEachNumber}
 use Rattle.block_digests.specs.Laws.{BlockTextsTell}
 use Rattle.block_digests.specs.Unite.{Collide, told}
 use Rattle.block_digests.proofs.UniteLemmas.{brought}
 use Rattle.inbox.specs.Laws.{SetLaws}
 use Rattle.block_digests.proofs.ListLemmas.{all_kept, any_filter, found, item_is, or_left, passes, and_right, either, or_right}
-use Rattle.line_intake.specs.Follow.{AreKept, AreTurns, Place, Turn, faults_of}
+use Rattle.line_intake.specs.Follow.{AreKept, AreTurns, StreamPlace, Turn, faults_of}
 use Rattle.line_intake.specs.Judged.{AreJudged, TakesLines, faults_in}
 use Rattle.line_intake.specs.declared.answer.Told.{Told}
 use Rattle.databases.specs.Pages.{pages_text}
-use Rattle.stream_laws.specs.Stream.{CommandsTell, IsTold, PagesAreTaken, parts}
+use Rattle.stream_laws.specs.Stream.{CommandsTell, IsLineTold, PagesAreTaken, parts}
 use Rattle.stream_laws.specs.Part.{AllPagesCome, CutsHeal, FrontsAreTaken, OverlapsBring, ScrubsBring}
 use Rattle.stream_laws.proofs.LineLemmas.{Splits, TextIsOneLine, lines_of, plain_batch, splits}
 use Rattle.stream_laws.proofs.PageLemmas.{IsGood, PartsMakeEvents, ReadsApart, ReadsBack, ReadsOnce, all_take, judged_pages, pages_are, parts_good, parts_join, sequenced}
@@ -64,7 +64,7 @@ record Front (ps : List (List EventValue)) (held events : List EventValue) (turn
   faultless : faults_of turns ≡ 0
 
 module _ (one : TextIsOneLine) (once : ReadsOnce) (apart : ReadsApart) where
-  front_of : (turns : List Turn) (start last : Place) (ps : List (List EventValue)) (held events : List EventValue) → AllByRecursion IsGood ps → start.left ≡ Some (lines_of ps) → AreTurns start turns last → AreKept held turns events → Front ps held events turns
+  front_of : (turns : List Turn) (start last : StreamPlace) (ps : List (List EventValue)) (held events : List EventValue) → AllByRecursion IsGood ps → start.left ≡ Some (lines_of ps) → AreTurns start turns last → AreKept held turns events → Front ps held events turns
   front_of [] start last ps held events g is are kept = record { taken = []; left = ps; all = refl; are = kept; faultless = refl }
   front_of (turn ∷ turns) start last ps held events g is (mid, it, later) (fresh, kept) =
       let s : Splits ps it.lines.lines mid.left = splits one ps (all_events ps g) it.lines.lines mid.left (subst (λ l. TakesLines l it.lines.lines mid.left) is it.lines.taken) in
@@ -134,10 +134,10 @@ module _ (exact : (x y : EventValue) → IsEvent x → IsEvent y → key_cmp x y
       let E = set_of B in
       let F = set_of A in
       let sent : AreEvents (take n (lacking E F)) = all_take IsEvent n (lacking E F) (all_kept IsEvent (is_missing E F) E (all-in_order key_cmp_total IsEvent B b)) in
-      let numbered : AreNumbered (take n (lacking E F)) = all_take HasNumber n (lacking E F) (all_kept HasNumber (is_missing E F) E (all-in_order key_cmp_total HasNumber B numbers_b)) in
+      let numbered : HaveEachNumber (take n (lacking E F)) = all_take HasNumber n (lacking E F) (all_kept HasNumber (is_missing E F) E (all-in_order key_cmp_total HasNumber B numbers_b)) in
       let events : AreEvents part = subst AreEvents (sym is) (all_new IsEvent A (take n (lacking E F)) a sent) in
-      let numbers : AreNumbered part = subst AreNumbered (sym is) (all_new HasNumber A (take n (lacking E F)) numbers_a numbered) in
-      let it : IsTold part B new sends.faults = tell part B new b numbers_b sends in
+      let numbers : HaveEachNumber part = subst HaveEachNumber (sym is) (all_new HasNumber A (take n (lacking E F)) numbers_a numbered) in
+      let it : IsLineTold part B new sends.faults = tell part B new b numbers_b sends in
       by_law (heal A B part n a b is) it.set
       (brought sets texts E (set_of part) (all-in_order key_cmp_total IsEvent B b) (all-in_order key_cmp_total IsEvent part events)
       (λ e c. item_is HasNumber E e (all-in_order key_cmp_total HasNumber B numbers_b) c) (sorted-in_order key_cmp_total B) (sorted-in_order key_cmp_total part) exact)

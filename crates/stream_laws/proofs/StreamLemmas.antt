@@ -16,18 +16,18 @@ use Rattle.inbox.proofs.OrderLemmas.{key_cmp_total}
 use Rattle.inbox.proofs.SetLemmas.{all-in_order, append_new-append, in_order-append_new}
 use Rattle.inbox_table.specs.Calls.{joined}
 use Rattle.block_digests.specs.Lacking.{is_missing, lacking}
-use Rattle.block_digests.specs.Number.{AreNumbered}
+use Rattle.block_digests.specs.Number.{HaveEachNumber}
 use Rattle.block_digests.specs.Unite.{Collide, GossipsUnite, Unite, told}
 use Rattle.block_digests.proofs.ListLemmas.{all_append, all_kept}
 use Rattle.coverage.specs.Digests.{DeltaIsLacking, Digests, is_lacking}
 use Rattle.coverage.specs.Summary.{IsSummary, Sources}
 use Rattle.coverage.specs.SummaryText.{summary_text}
-use Rattle.line_intake.specs.Follow.{AreKept, AreTurns, Place, Turn, faults_of}
+use Rattle.line_intake.specs.Follow.{AreKept, AreTurns, StreamPlace, Turn, faults_of}
 use Rattle.line_intake.specs.Judged.{AreJudged, TakesLines, faults_in}
 use Rattle.site.specs.Delta.{delta}
 use Rattle.databases.specs.Pages.{pages_text}
 use Rattle.databases.specs.Print.{WithoutLineEnd}
-use Rattle.stream_laws.specs.Stream.{AreUnited, CommandsTell, CommandsUnite, IsTold, PagesAreLines, PagesAreTaken, parts}
+use Rattle.stream_laws.specs.Stream.{AreUnited, CommandsTell, CommandsUnite, IsLineTold, PagesAreLines, PagesAreTaken, parts}
 use Rattle.stream_laws.proofs.LineLemmas.{Splits, TextIsOneLine, at_end, head_or, lines_of, splits, tail_of}
 use Rattle.stream_laws.proofs.PageLemmas.{IsGood, PartsMakeEvents, ReadsApart, ReadsBack, ReadsOnce, judged_pages, pages_are, parts_good, parts_join}
 
@@ -54,10 +54,10 @@ module _ (one : TextIsOneLine) (once : ReadsOnce) (apart : ReadsApart) where
       let s = splits one ps (all_events ps g) lines left t in
       s.are ∙ ap (map batch_text) (sym (s.all ∙ no_more s.taken s.left (at_end s.left left s.rest end)))
 
-  pub turns_keep : (turns : List Turn) (start last : Place) (ps : List (List EventValue)) (held events : List EventValue) → AllByRecursion IsGood ps → start.left ≡ Some (lines_of ps) → AreTurns start turns last → IsAtEnd last.left → AreKept held turns events
+  pub turns_keep : (turns : List Turn) (start last : StreamPlace) (ps : List (List EventValue)) (held events : List EventValue) → AllByRecursion IsGood ps → start.left ≡ Some (lines_of ps) → AreTurns start turns last → IsAtEnd last.left → AreKept held turns events
       → (events ≡ append_new key_cmp held (joined ps)) × (faults_of turns ≡ 0)
   turns_keep [] start last ps held events g is are end kept =
-      let none : ps ≡ [] = at_end ps last.left (sym (ap (λ (p : Place). p.left) are) ∙ is) end in
+      let none : ps ≡ [] = at_end ps last.left (sym (ap (λ (p : StreamPlace). p.left) are) ∙ is) end in
       (kept ∙ ap (λ qs. append_new key_cmp held (joined qs)) (sym none), refl)
   turns_keep (turn ∷ turns) start last ps held events g is (mid, it, later) end (fresh, kept) =
       let s : Splits ps it.lines.lines mid.left = splits one ps (all_events ps g) it.lines.lines mid.left (subst (λ l. TakesLines l it.lines.lines mid.left) is it.lines.taken) in
@@ -123,7 +123,7 @@ commands_tell taken lacks texts A B new b numbers sends =
     let digests : Digests F sends.peer = subst (Digests F) (sym same) sends.says.1 in
     let less : delta E sends.peer ≡ lacking E F = lacks E F sends.peer digests in
     let events : AreEvents (delta E sends.peer) = all_kept IsEvent (is_lacking E sends.peer) E (all-in_order key_cmp_total IsEvent B b) in
-    let numbered : AreNumbered (delta E sends.peer) = all_kept HasNumber (is_lacking E sends.peer) E (all-in_order key_cmp_total HasNumber B numbers) in
+    let numbered : HaveEachNumber (delta E sends.peer) = all_kept HasNumber (is_lacking E sends.peer) E (all-in_order key_cmp_total HasNumber B numbers) in
     let f = sends.followed in
     let it = taken A (delta E sends.peer) new events numbered 0 sends.out f.turns f.last f.are f.over f.kept in
     let list : new ≡ append_new key_cmp A (lacking E F) = it.0 ∙ ap (append_new key_cmp A) less in
@@ -137,12 +137,12 @@ pub commands_unite : CommandsTell → GossipsUnite → CommandsUnite
 commands_unite tell unite A B A' B' a b numbers_a numbers_b one two =
     let E = set_of B in
     let F = set_of A in
-    let first : IsTold A B A' one.faults = tell A B A' b numbers_b one in
+    let first : IsLineTold A B A' one.faults = tell A B A' b numbers_b one in
     let sent : AreEvents (lacking E F) = all_kept IsEvent (is_missing E F) E (all-in_order key_cmp_total IsEvent B b) in
-    let numbered : AreNumbered (lacking E F) = all_kept HasNumber (is_missing E F) E (all-in_order key_cmp_total HasNumber B numbers_b) in
+    let numbered : HaveEachNumber (lacking E F) = all_kept HasNumber (is_missing E F) E (all-in_order key_cmp_total HasNumber B numbers_b) in
     let events' : AreEvents A' = subst AreEvents (sym first.list) (all_new IsEvent A (lacking E F) a sent) in
-    let numbers' : AreNumbered A' = subst AreNumbered (sym first.list) (all_new HasNumber A (lacking E F) numbers_a numbered) in
-    let second : IsTold B A' B' two.faults = tell B A' B' events' numbers' two in
+    let numbers' : HaveEachNumber A' = subst HaveEachNumber (sym first.list) (all_new HasNumber A (lacking E F) numbers_a numbered) in
+    let second : IsLineTold B A' B' two.faults = tell B A' B' events' numbers' two in
     by_law first.set second.set (unite B A b a numbers_b numbers_a)
   where
     by_law : set_of A' ≡ told (set_of B) (set_of A) → set_of B' ≡ told (set_of A') (set_of B) → Unite (set_of B) (set_of A) ⊎ (Collide (set_of B) (set_of A) ⊎ Collide (told (set_of B) (set_of A)) (set_of B))

@@ -8,7 +8,7 @@ ghost use Rattle.inbox.specs.Ordered.{append_new};
 ghost use Rattle.inbox.specs.Sets.{AreEvents, set_of};
 ghost use Rattle.inbox_table.specs.Rows.{IsInbox};
 ghost use Rattle.block_digests.specs.Lacking.{lacking};
-ghost use Rattle.block_digests.specs.Number.{AreNumbered};
+ghost use Rattle.block_digests.specs.Number.{HaveEachNumber};
 ghost use Rattle.databases.specs.Held.{Holds};
 ghost use Rattle.databases.specs.Pages.{pages_text};
 
@@ -87,7 +87,7 @@ pub fn follow_pages<S: Alter + Drop, R: Read, W: Write>(
     out: &mut W,
 ) -> Streamed<S>
     ensures { HasCleanDisk (state S.Store result.conn) → IfOk result.outcome (λ faults.
-        (es held : List EventValue) → AreEvents es → AreNumbered es
+        (es held : List EventValue) → AreEvents es → HaveEachNumber es
         → R.remaining input.old ≡ Some (pages_text es) → Holds (state S.Store conn).now held
         → IsInbox (state S.Store result.conn).now (append_new key_cmp held es) × (faults ≡ 0)) }
 {

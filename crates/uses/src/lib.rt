@@ -9,8 +9,8 @@ ghost use Rattle.keeper.specs.Keep.{KeepsUp};
 ghost use Rattle.uses.specs.Region.{IsRegion};
 
 use attributes::{List, Octets, Text};
+use event_files::Shelf;
 use feeds::{Jobs, ServeFault, Served, WorkerEnd, serve};
-use file_reports::Shelf;
 use inbox_table::{Table, Unwatched};
 use keeper::laws::first_arrivals_stay;
 use keeper::{Flushed, Flusher, Keeper, Kept};

@@ -29,9 +29,9 @@ abbrev pub behind : Span → ℕ → Span
 behind name end = record { start = name.end + 3; end = end }
 
 -- the name at a span of the text, or aside of it
-abbrev pub name_of : List ℕ → List ℕ → Span → Kind → List ℕ
-name_of text aside name (kind.Escaped end) = in_span aside name
-name_of text aside name _ = in_span text name
+abbrev pub name_at_span : List ℕ → List ℕ → Span → Kind → List ℕ
+name_at_span text aside name (kind.Escaped end) = in_span aside name
+name_at_span text aside name _ = in_span text name
 
 -- a value, lent where it is a text
 abbrev pub value_of : List ℕ → List ℕ → Span → Kind → Scalar
@@ -41,15 +41,15 @@ value_of text aside name (kind.Words end) = scalar.Words (in_span text (behind n
 value_of text aside name (kind.Escaped end) = scalar.Words (in_span aside (behind name end))
 
 -- a name, and the value where it is a text, stand in the text or aside of it
-abbrev pub Stands : List ℕ → List ℕ → Span → Kind → Type 0
-Stands text aside name (kind.Flag b) = IsSpan text name
-Stands text aside name (kind.Whole z) = IsSpan text name
-Stands text aside name (kind.Words end) = IsSpan text name × IsSpan text (behind name end)
-Stands text aside name (kind.Escaped end) = IsSpan aside name × IsSpan aside (behind name end)
+abbrev pub StandsInText : List ℕ → List ℕ → Span → Kind → Type 0
+StandsInText text aside name (kind.Flag b) = IsSpan text name
+StandsInText text aside name (kind.Whole z) = IsSpan text name
+StandsInText text aside name (kind.Words end) = IsSpan text name × IsSpan text (behind name end)
+StandsInText text aside name (kind.Escaped end) = IsSpan aside name × IsSpan aside (behind name end)
 
 -- the name of a place
 abbrev pub place_name : List ℕ → List ℕ → Place → List ℕ
-place_name text aside p = name_of text aside p.name p.value
+place_name text aside p = name_at_span text aside p.name p.value
 
 -- the value of a place
 abbrev pub place_value : List ℕ → List ℕ → Place → Scalar
@@ -57,7 +57,7 @@ place_value text aside p = value_of text aside p.name p.value
 
 -- a place stands in the text or aside of it
 abbrev pub IsPlace : List ℕ → List ℕ → Place → Type 0
-IsPlace text aside p = Stands text aside p.name p.value
+IsPlace text aside p = StandsInText text aside p.name p.value
 
 -- the attributes of places
 abbrev pub shown : List ℕ → List ℕ → List Place → List (List ℕ × Scalar)

@@ -3,7 +3,7 @@ use Rattle.std.specs.Prelude.{◌≡◌, ◌<◌, ℕ, List, Option, Some, map}
 use Rattle.std.specs.BTreeMap.{BTreeMap}
 use Rattle.std.specs.String.{string_bytes}
 use Rattle.std.specs.declared.string.String.{String}
-use Rattle.block_digests.specs.Kept.{Kept, KeptBlock, position_of}
+use Rattle.block_digests.specs.Kept.{KeptBlocks, KeptBlock, position_of}
 
 -- sources, each with the numbers of its blocks and where they stand
 abbrev pub Index : Type 0 → Type 0
@@ -23,7 +23,7 @@ module _ {Y : Type 0} where
   position index source k = position_of (index_in index.entries) source k
 
   -- what is kept by them
-  abbrev pub kept_in : Index Y → List KeptBlock → Kept
+  abbrev pub kept_in : Index Y → List KeptBlock → KeptBlocks
   kept_in index blocks = record { index = index_in index.entries; blocks = blocks }
 
   -- each position is one of the list's, and stands for one block

@@ -7,7 +7,7 @@ use Rattle.attributes.specs.Event.{EventValue}
 use Rattle.inbox.specs.Ordered.{in_order}
 use Rattle.block_digests.specs.Block.{line_cmp, lines}
 use Rattle.block_digests.specs.Kept.{KeptBlock}
-use Rattle.block_digests.specs.steps.Rows.{Row, row_cmp, row_of}
+use Rattle.block_digests.specs.steps.Rows.{NumberedText, numbered_text_cmp, numbered_text_of}
 
 -- the arrivals at the places that there are
 abbrev pub events_at : List EventValue → List ℕ → List EventValue
@@ -20,8 +20,8 @@ is_rise A p q = option_map_or
     (λ e. option_map_or (λ f. is_lt (line_cmp e f)) (slice_get A q) false) (slice_get A p) false
 
 -- their rows, in order
-abbrev pub rows_at : List EventValue → List ℕ → List Row
-rows_at A ps = in_order row_cmp (map row_of (events_at A ps))
+abbrev pub rows_at : List EventValue → List ℕ → List NumberedText
+rows_at A ps = in_order numbered_text_cmp (map numbered_text_of (events_at A ps))
 
 -- the digest of their texts
 abbrev pub digest_at : List EventValue → List ℕ → List ℕ

@@ -9,22 +9,22 @@ use Rattle.block_digests.specs.Block.{is_in_block}
 use Rattle.block_digests.specs.Number.{number_or_0}
 
 -- a number and a text
-abbrev pub Row : Type 0
-Row = ℕ × List ℕ
+abbrev pub NumberedText : Type 0
+NumberedText = ℕ × List ℕ
 
 -- by number, then text
-abbrev pub row_cmp : Row → Row → Ordering
-row_cmp r s = ordering_then (nat_cmp r.0 s.0) (byte_cmp r.1 s.1)
+abbrev pub numbered_text_cmp : NumberedText → NumberedText → Ordering
+numbered_text_cmp r s = ordering_then (nat_cmp r.0 s.0) (byte_cmp r.1 s.1)
 
 -- the number and the text of an event
-abbrev pub row_of : EventValue → Row
-row_of e = (number_or_0 e, text e)
+abbrev pub numbered_text_of : EventValue → NumberedText
+numbered_text_of e = (number_or_0 e, text e)
 
 -- the rows of the events of a block, in order
-abbrev pub rows_of : List EventValue → List ℕ → ℕ → List Row
-rows_of E source k = in_order row_cmp (map row_of (filter (is_in_block source k) E))
+abbrev pub numbered_texts_of : List EventValue → List ℕ → ℕ → List NumberedText
+numbered_texts_of E source k = in_order numbered_text_cmp (map numbered_text_of (filter (is_in_block source k) E))
 
 -- the texts of rows, each followed by a line feed
-unfoldable pub joined : List Row → List ℕ
+unfoldable pub joined : List NumberedText → List ℕ
 joined [] = []
 joined (r ∷ rs) = r.1 ++ 10 ∷ joined rs

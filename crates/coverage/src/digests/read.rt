@@ -60,7 +60,10 @@ fn place_of(k: u64) -> Option<Sequence>
 }
 
 /// The blocks, as a set that holds k + 1 for block k; none where one is past the last block.
-fn places(alloc: Global, blocks: &BTreeMap<u64, [u8; 32]>) -> Result<Option<Intervals>, AllocError>
+fn numbers_of_blocks(
+    alloc: Global,
+    blocks: &BTreeMap<u64, [u8; 32]>,
+) -> Result<Option<Intervals>, AllocError>
     ensures { IfOk result (λ o. MatchOption o
         ((k : ℕ) × ((max_sequence ≤ k) × (is_some (block_digest blocks.now.entries k) ≡ true)))
         (λ i. IsCanonical i × ((k : ℕ)
@@ -86,7 +89,7 @@ fn are_just(
     ensures { IfOk result (λ b. IsTrue b ↔ AreJust numbers.now blocks.now.entries) }
 {
     let due = numbers.blocks()?;
-    match places(alloc, blocks)? {
+    match numbers_of_blocks(alloc, blocks)? {
         Some(found) => Ok(due.same(&found)),
         None => Ok(false),
     }

@@ -11,7 +11,7 @@ ghost use Rattle.coverage.specs.Intervals.{Interval, IsCanonical, fits_from};
 ghost use Rattle.coverage.specs.Numbers.{AreListed, Entries};
 ghost use Rattle.coverage.specs.NumbersText.{intervals_items, sources_members, numbers_data, numbers_text};
 ghost use Rattle.coverage.specs.SummaryShape.{version_of};
-ghost use Rattle.coverage.specs.Refusals.{IsSummaryText, Refuses};
+ghost use Rattle.coverage.specs.Refusals.{IsSummaryText, RefusesSummary};
 ghost use Rattle.coverage.specs.steps.Places.{EndsBefore};
 
 use super::Numbers;
@@ -27,7 +27,7 @@ use std::cmp::Ordering;
 /// The bytes as a JSON value.
 pub(crate) fn parse(alloc: Global, bytes: &[u8]) -> Result<Value, SummaryFault>
     ensures value { IfOk result (λ v. IsJsonText bytes.now (view v)) }
-    ensures refused { IfErr result (Refuses bytes.now) }
+    ensures refused { IfErr result (RefusesSummary bytes.now) }
     ensures accepted { IsSummaryText bytes.now
         → OnErr result (result ≡ Err SummaryFault.OutOfMemory) }
 {
@@ -184,7 +184,7 @@ impl Numbers {
         requires version { version_of (view value) ≡ Some 1 }
         ensures text { IfOk result (λ s. bytes.now ≡ numbers_text s) }
         ensures summary { IfOk result (λ s. AreListed s) }
-        ensures refused { IfErr result (Refuses bytes.now) }
+        ensures refused { IfErr result (RefusesSummary bytes.now) }
         ensures accepted { (s : Entries) → AreListed s → bytes.now ≡ numbers_text s
             → MatchResult result (λ r. r ≡ s) (λ e. e ≡ SummaryFault.OutOfMemory) }
     {
@@ -212,7 +212,7 @@ impl Numbers {
         requires version { version_of (view value) ≡ Some 2 }
         ensures text { IfOk result (λ r. bytes.now ≡ digests_text r.0 r.1) }
         ensures summary { IfOk result (λ r. AreListed r.0 × AreDigests r.0 r.1) }
-        ensures refused { IfErr result (Refuses bytes.now) }
+        ensures refused { IfErr result (RefusesSummary bytes.now) }
         ensures accepted { (es : Entries) (ds : SourceBlocks) → AreListed es → AreDigests es ds
             → bytes.now ≡ digests_text es ds → MatchResult result
             (λ r. (r.0 ≡ es) × (r.1 ≡ ds)) (λ e. e ≡ SummaryFault.OutOfMemory) }

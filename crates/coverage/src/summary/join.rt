@@ -1,6 +1,6 @@
 //! The summary of a whole whose parts have summaries of their own.
 ghost use Rattle.std.specs.Prelude.{◌≡◌, ◌≢◌, ◌⊎◌, ℕ, List, [], IfOk, OnErr};
-ghost use Rattle.coverage.specs.Digests.{digest_at};
+ghost use Rattle.coverage.specs.Digests.{block_digest_at};
 ghost use Rattle.coverage.specs.Join.{chosen, joined_version};
 ghost use Rattle.coverage.specs.Summary.{IsSummary, entries_of, numbers_of, version_of};
 
@@ -21,8 +21,8 @@ impl Summary {
             version_of r ≡ joined_version (version_of self.now) (version_of other.now)) }
         ensures digests { version_of self.now ≡ 2 → version_of other.now ≡ 2
             → IfOk result (λ r. (s : List ℕ) (k : ℕ)
-            → digest_at r s k
-            ≡ chosen (numbers_of self.now s) (digest_at self.now s k) (digest_at other.now s k)) }
+            → block_digest_at r s k
+            ≡ chosen (numbers_of self.now s) (block_digest_at self.now s k) (block_digest_at other.now s k)) }
 
         // Memory is wanted where either has a source.
         ensures err { OnErr result ((entries_of self.now ≢ []) ⊎ (entries_of other.now ≢ [])) }

@@ -3,7 +3,7 @@ use Rattle.std.specs.Prelude.{◌≡◌, ◌⊎◌, ℕ, List, IsTrue}
 use Rattle.sqlite_trees.specs.Tree.{Trees}
 use Rattle.sqlite.specs.State.{State, HasCleanDisk}
 use Rattle.outbox.specs.Call.{MayAccept}
-use Rattle.outbox.specs.Layout.{ServiceLayout, schema_in}
+use Rattle.outbox.specs.Layout.{ServiceLayout, schema_in_layout}
 use Rattle.outbox.specs.Order.{Accepted}
 
 -- a crash leaves what it could leave before, or the service with the command
@@ -14,4 +14,4 @@ LeavesOrAccepts source base c old new = HasCleanDisk new → IsTrue old.is_open 
 -- an open service was read: a crash leaves what it could leave before
 abbrev pub LeavesRead : State → State → Type 0
 LeavesRead old new = HasCleanDisk new → IsTrue old.is_open → (layout : ServiceLayout)
-    → old.now.schema ≡ schema_in layout → (db : Trees) → new.may_leave db → old.may_leave db
+    → old.now.schema ≡ schema_in_layout layout → (db : Trees) → new.may_leave db → old.may_leave db

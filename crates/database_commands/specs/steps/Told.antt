@@ -13,8 +13,8 @@ use Rattle.databases.specs.Print.{database_line, service_line}
 use Rattle.databases.specs.Service.{TellsService}
 
 -- a service with this source and base has so many orders and so many rows
-abbrev pub Counts : State → List ℕ → ℕ → ℕ → ℕ → Type 0
-Counts s source base orders rows = HasCleanDisk s → IsTrue s.is_open
+abbrev pub CountsService : State → List ℕ → ℕ → ℕ → ℕ → Type 0
+CountsService s source base orders rows = HasCleanDisk s → IsTrue s.is_open
     → CountsOrders s.now source base orders × CountsRows s.now source base rows
 
 -- the text is the line of a service with this source and base, which are those that are asked for
@@ -23,7 +23,7 @@ pub record IsLineOf (s : State) (source : List ℕ) (base : ℕ) (is_named : Boo
   pub orders : ℕ
   pub rows : ℕ
   pub line : text ≡ service_line source base orders rows
-  pub counts : Counts s source base orders rows
+  pub counts : CountsService s source base orders rows
   pub meant : IsTrue is_named → source ≡ given
   pub at : IfSome start (λ n. base ≡ n)
 
@@ -33,6 +33,6 @@ TellsEach db text = (source : List ℕ) (base : ℕ) (commands : List Accepted)
     → IsService db source base commands → TellsService source base commands text
 
 -- the text is the line of an inbox with these events, whose version has this number
-abbrev pub TellsEvents : List ℕ → List EventValue → ℕ → List ℕ → Type 0
-TellsEvents name events version text = (n : ℕ) × CountsSources (append_new key_cmp [] events) n
+abbrev pub TellsInboxLine : List ℕ → List EventValue → ℕ → List ℕ → Type 0
+TellsInboxLine name events version text = (n : ℕ) × CountsSources (append_new key_cmp [] events) n
     × (text ≡ database_line name (length events) n version)

@@ -4,8 +4,8 @@ use Rattle.json.specs.Token.{Token, begin_object, end_object, key, number, strin
 use Rattle.json.specs.Written.{Written}
 
 -- these tokens were written behind what stood there
-abbrev pub Adds : Written → Written → List Token → Type 0
-Adds old new ts = (new.before ≡ old.before) × (new.tokens ≡ old.tokens ++ ts)
+abbrev pub AddsTokens : Written → Written → List Token → Type 0
+AddsTokens old new ts = (new.before ≡ old.before) × (new.tokens ≡ old.tokens ++ ts)
 
 -- a member with a number, and one with a text
 abbrev pub number_member : List ℕ → ℕ → List Token

@@ -9,8 +9,8 @@ use Rattle.event_json.specs.declared.read.Outcome.{Outcome}
 
 -- the refusal is that of the first value with a fault, and where there is none the events are
 -- those of all values
-abbrev pub IsOutcome : Outcome → List Data → Type 0
-IsOutcome o ds =
+abbrev pub IsReadingOutcome : Outcome → List Data → Type 0
+IsReadingOutcome o ds =
     (o.refusal ≡ first_bad 0 ds) × (o.refusal ≡ None → o.events ≡ map event_in ds)
 
 -- the events, or the refusal where there is one

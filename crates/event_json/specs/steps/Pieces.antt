@@ -14,7 +14,7 @@ abbrev pub GoesOn : (List Data → Type 0) → (List Data → Type 0) → List D
 GoesOn P Q es = (ds : List Data) → P ds → Q (ds ++ es)
 
 -- the bytes are the text of an array of some values, which go on so
-pub record Adds (b : List ℕ) (P Q : List Data → Type 0) : Type 0 where
+pub record AddsMembers (b : List ℕ) (P Q : List Data → Type 0) : Type 0 where
   pub members : List Data
   pub holds : HoldsSome b members
   pub goes_on : GoesOn P Q members

@@ -5,7 +5,7 @@ use Rattle.inbox.specs.KeyOrder.{key_cmp}
 use Rattle.inbox.specs.Ordered.{append_new}
 use Rattle.inbox.specs.Sets.{set_of, union}
 use Rattle.exchange.specs.Place.{Place}
-use Rattle.exchange.specs.Schedule.{after, after_part}
+use Rattle.exchange.specs.Schedule.{places_after, after_part}
 use Rattle.exchange.specs.declared.step.Step.{Step}
 use Rattle.exchange.specs.declared.world.Hosted.{Hosted}
 
@@ -27,7 +27,7 @@ abbrev pub Gives : List Hosted → List Hosted → ℕ → List EventValue → R
 Gives old new i L (Ok _) = GivesTo old new i L
 Gives old new i L (Err n) = GivesTo old new i (take n L)
 
--- the world after a step that was made; refused, after the first so many of its events
+-- the world places_after a step that was made; refused, places_after the first so many of its events
 abbrev pub after_made : Result (Unit {0}) ℕ → Step → List Place → List Place
-after_made (Ok _) step w = after step w
+after_made (Ok _) step w = places_after step w
 after_made (Err n) step w = after_part n step w

@@ -11,7 +11,7 @@ use Rattle.exchange.specs.declared.transfer.Moved.{Moved}
 -- of the events `left` of E that the peer lacks from a place on, so many came to a site with the
 -- arrivals `old`, from the first on, and the others stand from the next place on; refused, fewer
 -- than all came
-pub record Moves (E : List EventValue) (peer : Sources) (place : ℕ) (left old new : List EventValue)
+pub record MovesOn (E : List EventValue) (peer : Sources) (place : ℕ) (left old new : List EventValue)
     (result : Result Moved ℕ) : Type 0 where
   pub arrivals : IfOk result (λ m. new ≡ append_new key_cmp old (take m.count left))
   pub set : IfOk result (λ m. set_of new ≡ union (set_of old) (take m.count left))

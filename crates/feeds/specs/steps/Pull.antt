@@ -19,11 +19,11 @@ use Rattle.feeds.specs.declared.report.Tally.{Tally}
 use Rattle.feeds.specs.steps.Tally.{Counted}
 
 -- the call for the summary: it is told, or the gate was shut before the call, or this was refused
-abbrev pub Sums : List Call → Result Sources WorkerEnd → Type 0
-Sums n (Ok peer) = n ≡ call command.Summary (Summed peer) ∷ []
-Sums n (Err OutOfMemory) = (fault : DeskFault) × (n ≡ call command.Summary (refused fault) ∷ [])
-Sums n (Err GateShut) = n ≡ []
-Sums n (Err _) = ⊥
+abbrev pub SumsUp : List Call → Result Sources WorkerEnd → Type 0
+SumsUp n (Ok peer) = n ≡ call command.Summary (Summed peer) ∷ []
+SumsUp n (Err OutOfMemory) = (fault : DeskFault) × (n ≡ call command.Summary (refused fault) ∷ [])
+SumsUp n (Err GateShut) = n ≡ []
+SumsUp n (Err _) = ⊥
 
 -- the call for a page, in the same way
 abbrev pub Pages : Sources → ℕ → List Call → Result (List EventValue) WorkerEnd → Type 0
@@ -35,12 +35,12 @@ Pages peer place m (Err OutOfMemory) = (fault : DeskFault)
 Pages peer place m (Err GateShut) = m ≡ []
 Pages peer place m (Err _) = ⊥
 
--- the counts of events are the same
+-- two tallies of a worker have the same counts of new, repeated and refused events
 abbrev pub HasSameCounts : Tally → Tally → Type 0
 HasSameCounts t u = (u.fresh ≡ t.fresh) × (u.repeated ≡ t.repeated) × (u.refused ≡ t.refused)
 
 -- a page was moved, whole if nothing ended it
-pub record Moves (peer : Sources) (m n : List Call) (t u : Tally) (o : Option WorkerEnd)
+pub record MovesPage (peer : Sources) (m n : List Call) (t u : Tally) (o : Option WorkerEnd)
     : Type 0 where
   pub pages : ArePages peer (t.fresh + t.repeated) m
   pub handles : Handles n (replied m)

@@ -6,7 +6,7 @@ use Rattle.site.specs.declared.call.Call.{Call}
 use Rattle.turn_lock.specs.declared.machine.Entry.{Entry}
 use Rattle.turn_lock.specs.History.{StartsWith, made_by}
 use Rattle.views.specs.declared.query.Query.{Query}
-use Rattle.site_lock.specs.Pass.{Shown, Steps, leaves}
+use Rattle.site_lock.specs.Pass.{ShownPass, Steps, leaves}
 use Rattle.feeds.specs.Ask.{Asks}
 use Rattle.feeds.specs.Gate.{IsGated}
 use Rattle.feeds.specs.Pull.{PullsBy}
@@ -44,7 +44,7 @@ module _ (lets shuts heard : ℕ → ℕ → Type 0) where
   Performs worker (work.Ask queries) m B (Reported r) = ⊥
 
 -- the job for this work, with the pass of the worker at this place
-pub record IsJobAt (p : Shown) (place : ℕ) (w : Work) (j : Job) : Type 0 where
+pub record IsJobAt (p : ShownPass) (place : ℕ) (w : Work) (j : Job) : Type 0 where
   pub worker : j.worker ≡ place
   pub work : j.work ≡ w
   pub table : j.pass.table ≡ p.table
@@ -53,8 +53,8 @@ pub record IsJobAt (p : Shown) (place : ℕ) (w : Work) (j : Job) : Type 0 where
   pub unused : j.pass.mine ≡ []
 
 -- a worker did this job, in calls that the gate let through
-abbrev pub Ends : (ℕ → ℕ → Type 0) → (ℕ → ℕ → Type 0) → (ℕ → ℕ → Type 0) → Job → Finished → Type 0
-Ends lets shuts heard j f = (m : List Call) × Steps j.pass f.pass m
+abbrev pub EndsJob : (ℕ → ℕ → Type 0) → (ℕ → ℕ → Type 0) → (ℕ → ℕ → Type 0) → Job → Finished → Type 0
+EndsJob lets shuts heard j f = (m : List Call) × Steps j.pass f.pass m
     × Performs lets shuts heard j.worker j.work m (leaves f.pass) f.outcome
 
 -- the two lists have one length, and this holds at each place
@@ -100,7 +100,7 @@ answers_in [] = []
 answers_in (o ∷ os) = answers_by o ++ answers_in os
 
 -- what came of the work by the calls that q has seen of the worker at this place
-abbrev pub WorkerTells : (ℕ → ℕ → Type 0) → (ℕ → ℕ → Type 0) → (ℕ → ℕ → Type 0) → Shown → Shown → ℕ
+abbrev pub WorkerTells : (ℕ → ℕ → Type 0) → (ℕ → ℕ → Type 0) → (ℕ → ℕ → Type 0) → ShownPass → ShownPass → ℕ
     → Work → JobEnd → Type 0
 WorkerTells lets shuts heard p q place w o = (m : List Call)
     × HasCalls q.seen (worker_of p place) m × Performs lets shuts heard place w m (leaves q) o

@@ -10,7 +10,7 @@ use Rattle.site.specs.declared.call.Call.{Call}
 use Rattle.site.specs.declared.desk.DeskFault.{DeskFault}
 use Rattle.site.specs.declared.desk.DeskFault.TheVariants.{OutOfMemory}
 use Rattle.feeds.specs.Report.{AreAnswered, AreTakes, EndsRefused, Handles, fresh_of, handled}
-use Rattle.feeds.specs.Report.{has_number, repeated_of, sequenced, unsequenced}
+use Rattle.feeds.specs.Report.{is_with_number, repeated_of, sequenced, unsequenced}
 use Rattle.feeds.specs.declared.report.WorkerEnd.{WorkerEnd}
 use Rattle.feeds.specs.declared.report.WorkerEnd.TheVariants as ended
 use Rattle.feeds.specs.declared.report.Tally.{Tally}
@@ -46,8 +46,8 @@ FlushedIfFull m batch left t u o = Flushed m batch left t u o
 
 -- an event came into the batch, or was passed over
 abbrev pub Passes : EventValue → List EventValue → List EventValue → Tally → Tally → Type 0
-Passes e b c t u = ((has_number e ≡ false) × (c ≡ b) × (u ≡ record t { refused = t.refused + 1 }))
-    ⊎ ((has_number e ≡ true) × (c ≡ b ++ e ∷ []) × (u ≡ t))
+Passes e b c t u = ((is_with_number e ≡ false) × (c ≡ b) × (u ≡ record t { refused = t.refused + 1 }))
+    ⊎ ((is_with_number e ≡ true) × (c ≡ b ++ e ∷ []) × (u ≡ t))
 
 -- after these events
 pub record Going (passed : List EventValue) (m : List Call) (batch : List EventValue) (t : Tally)
@@ -65,5 +65,5 @@ abbrev pub short_of : DeskFault → Short
 short_of (OutOfMemory taken fresh) = record { taken = taken; fresh = fresh }
 
 -- others added to the arrivals, and then came these events
-abbrev pub Gains : List EventValue → List EventValue → List EventValue → Type 0
-Gains A L B = (others : List EventValue) × (B ≡ append_new key_cmp (A ++ others) L)
+abbrev pub ComesBehindOthers : List EventValue → List EventValue → List EventValue → Type 0
+ComesBehindOthers A L B = (others : List EventValue) × (B ≡ append_new key_cmp (A ++ others) L)

@@ -3,7 +3,7 @@
 ghost use Rattle.std.specs.Prelude.{◌≡◌, ◌≤◌, ◌<◌, ◌++◌, ◌∷◌, [], length};
 ghost use Rattle.std.specs.Vec.{vec_capacity, vec_len};
 ghost use Rattle.turn_lock.specs.History.{StartsWith, made_by};
-ghost use Rattle.site_lock.specs.Pass.{IsSame};
+ghost use Rattle.site_lock.specs.Pass.{IsSamePass};
 ghost use Rattle.feeds.specs.steps.Serve.{AllAt, AllTold, answers_in, outcomes, reports_in};
 
 use super::Served;
@@ -57,7 +57,7 @@ pub(super) fn close_all(
     requires empty { (served.reports.items ≡ []) × (served.asked.items ≡ []) }
     requires room { (length all.items ≤ vec_capacity served.reports)
         × (length all.items ≤ vec_capacity served.asked) }
-    ensures same { IsSame pass.old pass.new × (pass.new.mine ≡ pass.old.mine)
+    ensures same { IsSamePass pass.old pass.new × (pass.new.mine ≡ pass.old.mine)
         × (pass.new.splits ≡ pass.old.splits) }
     ensures seen { StartsWith pass.new.seen pass.old.seen }
     ensures told { AllTold pass.new.seen all.items }

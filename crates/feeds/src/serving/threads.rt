@@ -4,7 +4,7 @@ ghost use Rattle.std.specs.Prelude.{◌≡◌, ◌≤◌, ◌<◌, ◌+◌, ◌+
 ghost use Rattle.std.specs.Vec.{vec_capacity};
 ghost use Rattle.std.specs.Thread.{IsSync};
 ghost use Rattle.site.specs.declared.call.Call.{Call};
-ghost use Rattle.feeds.specs.steps.Serve.{AreAt, Each, Ends, Performs};
+ghost use Rattle.feeds.specs.steps.Serve.{AreAt, Each, EndsJob, Performs};
 
 use crate::aside::Aside;
 use crate::asking::ask;
@@ -29,14 +29,14 @@ struct Done<G> {
 }
 
 impl<G: Gate> Promise<Finished> for Done<G> {
-    ghost use Rattle.feeds.specs.steps.Serve.{Ends};
+    ghost use Rattle.feeds.specs.steps.Serve.{EndsJob};
 
-    ghost kept_by = { λ p finished. Ends (G.lets p.gate.value) (G.shuts p.gate.value)
+    ghost kept_by = { λ p finished. EndsJob (G.lets p.gate.value) (G.shuts p.gate.value)
         (G.heard p.gate.value) p.job.value finished };
 }
 
 /// Does a worker's work over a desk.
-fn work_off<D: Desk, G: Gate>(
+fn do_work<D: Desk, G: Gate>(
     alloc: Global,
     desk: &mut D,
     gate: &G,
@@ -66,11 +66,11 @@ fn work<R: Wait, G: Gate>(
     left: &AtomicU64,
 ) -> Finished
     requires { job.pass.table ≡ shared.now }
-    ensures { Ends (G.lets gate.now) (G.shuts gate.now) (G.heard gate.now) job result }
+    ensures { EndsJob (G.lets gate.now) (G.shuts gate.now) (G.heard gate.now) job result }
 {
     let Job { worker, work, pass } = job;
     let mut caller = Caller::of(rt, shared, pass);
-    let outcome = work_off(alloc, &mut caller, gate, worker, work);
+    let outcome = do_work(alloc, &mut caller, gate, worker, work);
     let pass = caller.into_pass();
     left.fetch_sub(1, Ordering::SeqCst);
     Finished { outcome, pass }
@@ -108,7 +108,7 @@ fn run_jobs<R: Threads + Wait + Sync, G: Gate + Sync, A: Aside + Drop>(
     requires room { length jobs.items ≤ vec_capacity room }
     ensures aside { A.moves aside result.0 }
     ensures each { IfSome result.1 (λ v.
-        Each (Ends (G.lets gate.now) (G.shuts gate.now) (G.heard gate.now)) jobs.items v.items
+        Each (EndsJob (G.lets gate.now) (G.shuts gate.now) (G.heard gate.now)) jobs.items v.items
         × (vec_capacity room ≤ vec_capacity v)) }
 {
     let Some(job) = jobs.pop() else {
@@ -127,7 +127,7 @@ fn run_jobs<R: Threads + Wait + Sync, G: Gate + Sync, A: Aside + Drop>(
                 × (promise.gate.value ≡ gate.now) × (room.items ≡ [])
                 × (length jobs.items < vec_capacity room) }
             ensures { A.moves aside result.0
-                × IfSome result.1 (λ v. Each (Ends (G.lets gate.entry.now)
+                × IfSome result.1 (λ v. Each (EndsJob (G.lets gate.entry.now)
                 (G.shuts gate.entry.now) (G.heard gate.entry.now)) (jobs.items ++ job ∷ []) v.items
                 × (vec_capacity room ≤ vec_capacity v)) }
         {
@@ -136,7 +136,7 @@ fn run_jobs<R: Threads + Wait + Sync, G: Gate + Sync, A: Aside + Drop>(
                 promise,
                 move || -> Finished
                     requires { IsSync R.row × IsSync G.row × (job.pass.table ≡ shared.now) }
-                    ensures { Ends (G.lets gate.entry.now) (G.shuts gate.entry.now)
+                    ensures { EndsJob (G.lets gate.entry.now) (G.shuts gate.entry.now)
                         (G.heard gate.entry.now) job result }
                 { work(rt, alloc, shared, gate, job, left) },
             );
@@ -207,7 +207,7 @@ pub(super) fn run_beside<R: Threads + Wait + Sync, G: Gate + Sync, A: Aside>(
     requires room { length jobs.items ≤ vec_capacity room }
     ensures aside { A.moves aside.old aside.new }
     ensures each { IfSome result (λ v.
-        Each (Ends (G.lets gate.now) (G.shuts gate.now) (G.heard gate.now)) jobs.items v.items
+        Each (EndsJob (G.lets gate.now) (G.shuts gate.now) (G.heard gate.now)) jobs.items v.items
         × (vec_capacity room ≤ vec_capacity v)) }
 {
     let (lent, all) = run_jobs(rt, alloc, shared, gate, jobs, room, left, Lent { aside });

@@ -2,7 +2,7 @@
 
 ghost use Rattle.std.specs.Prelude.{◌≡◌, ◌≤◌, ◌<◌, ◌+◌, ◌++◌, ◌∷◌, [], length, MatchOption};
 ghost use Rattle.std.specs.Vec.{vec_capacity, vec_len};
-ghost use Rattle.site_lock.specs.Pass.{IsSame};
+ghost use Rattle.site_lock.specs.Pass.{IsSamePass};
 ghost use Rattle.feeds.specs.Serve.{EachAt};
 ghost use Rattle.feeds.specs.steps.Serve.{IsJobAt, pending_works, works_of};
 
@@ -106,7 +106,7 @@ pub(super) fn split_all(
     requires own { pass.old.table ≡ shared.now }
     requires empty { room.items ≡ [] }
     requires room { length (pending_works pending) ≤ vec_capacity room }
-    ensures same { IsSame pass.old pass.new × (pass.new.seen ≡ pass.old.seen)
+    ensures same { IsSamePass pass.old pass.new × (pass.new.seen ≡ pass.old.seen)
         × (pass.new.mine ≡ pass.old.mine) }
     ensures splits { pass.new.splits ≡ pass.old.splits + length (pending_works pending) }
     ensures jobs { EachAt (IsJobAt pass.old) 0 (pending_works pending) result.items }

@@ -2,7 +2,7 @@
 ghost use Rattle.std.specs.Prelude.{◌≡◌, [], ◌∷◌, List};
 ghost use Rattle.std.specs.Borrow.{ftrue};
 ghost use Rattle.sqlite_disk.specs.Events.{Event};
-ghost use Rattle.file_disk.specs.Note.{event_of};
+ghost use Rattle.file_disk.specs.Note.{event_of_note};
 
 use std::marker::{Model, PhantomData};
 
@@ -41,7 +41,7 @@ impl Record {
 
     /// The same calls, and one after them.
     pub(super) fn and(&self, _note: &Note, _bytes: &[u8]) -> Record
-        ensures { result.calls ≡ event_of _note.now _bytes.now ∷ self.now.calls }
+        ensures { result.calls ≡ event_of_note _note.now _bytes.now ∷ self.now.calls }
     {
         Record {
             marker: PhantomData,

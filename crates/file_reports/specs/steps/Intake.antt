@@ -2,14 +2,14 @@
 use Rattle.std.specs.Prelude.{◌≡◌, ℕ, List}
 use Rattle.attributes.specs.Event.{EventValue}
 use Rattle.inbox.specs.Sets.{set_of, union}
-use Rattle.file_reports.specs.Reports.{SpellsUnordered}
+use Rattle.event_files.specs.Files.{SpellsUnordered}
 
 -- the set is the one that was, with the events of a list
-abbrev pub Gains : List EventValue → List EventValue → List EventValue → Type 0
-Gains L old new = set_of new ≡ union (set_of old) L
+abbrev pub GainsSet : List EventValue → List EventValue → List EventValue → Type 0
+GainsSet L old new = set_of new ≡ union (set_of old) L
 
 -- the set got the events that a file's bytes spell, in whatever order
 pub record TakesFile (b : List ℕ) (old new : List EventValue) : Type 0 where
   pub events : List EventValue
   pub spells : SpellsUnordered b events
-  pub gains : Gains events old new
+  pub gains : GainsSet events old new

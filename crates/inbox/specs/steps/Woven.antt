@@ -10,8 +10,8 @@ woven n settled (l ∷ late) =
     take (l.before - n) settled ++ l.position ∷ woven l.before (drop (l.before - n) settled) late
 
 -- the settled items from n on that stand before a late one, and the late one
-abbrev pub up_to : ℕ → List ℕ → Late → List ℕ
-up_to n settled l = take (l.before - n) (drop n settled) ++ l.position ∷ []
+abbrev pub up_to_late : ℕ → List ℕ → Late → List ℕ
+up_to_late n settled l = take (l.before - n) (drop n settled) ++ l.position ∷ []
 
 -- the late items stand in order behind n to m settled ones
 abbrev pub Rise : ℕ → ℕ → List Late → Type 0
@@ -46,8 +46,8 @@ abbrev pub IsAmong : List Late → ℕ → ℕ → Type 0
 IsAmong late k i = (l : Late) → slice_get late k ≡ Some l → l.before + k < i
 
 -- the late item at k, where there is one, stands behind the first i of all
-abbrev pub IsBehind : List Late → ℕ → ℕ → Type 0
-IsBehind late k i = (l : Late) → slice_get late k ≡ Some l → i ≤ l.before + k
+abbrev pub IsLateBehind : List Late → ℕ → ℕ → Type 0
+IsLateBehind late k i = (l : Late) → slice_get late k ≡ Some l → i ≤ l.before + k
 
 -- the late item at k stands at place i of all, and has a position
 pub record IsLateAt (late : List Late) (k i position : ℕ) : Type 0 where

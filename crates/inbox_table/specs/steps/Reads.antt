@@ -23,7 +23,7 @@ abbrev pub HasVersion : Version → Schema → Type 0
 HasVersion v schema = (l : Layout) × HasTable v l × (schema ≡ schema_in l)
 
 -- while the disk is honest and the database open, nothing changed
-pub record IsSame (old new : State) : Type 0 where
+pub record IsTableReading (old new : State) : Type 0 where
   pub clean : doubt old.is_clean ≤ doubt new.is_clean
   pub was_open : HasCleanDisk new → IsTrue new.is_open → IsTrue old.is_open
   pub same : HasCleanDisk new → IsTrue new.is_open
@@ -31,7 +31,7 @@ pub record IsSame (old new : State) : Type 0 where
 
 -- what was read of the table in this version: how many rows it has, and those of its events that
 -- were wanted
-pub record Tells (v : Version) (wanted : EventValue → Bool) (db : Database) (rows : ℕ)
+pub record TellsRows (v : Version) (wanted : EventValue → Bool) (db : Database) (rows : ℕ)
     (batch : List EventValue) : Type 0 where
   pub events : List EventValue
   pub table : IsListed v db events

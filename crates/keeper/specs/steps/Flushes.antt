@@ -6,7 +6,7 @@ use Rattle.sqlite_trees.specs.Tree.{Trees}
 use Rattle.sqlite.specs.Effect.{Database}
 use Rattle.sqlite.specs.Held.{Held}
 use Rattle.sqlite.specs.State.{State, HasCleanDisk, Survives}
-use Rattle.inbox_table.specs.Beside.{KeepsService}
+use Rattle.inbox_table.specs.Beside.{KeepsServiceBeside}
 use Rattle.inbox_table.specs.Rows.{IsInbox}
 use Rattle.keeper.specs.Flush.{Flushes, Flushing}
 use Rattle.keeper.specs.Keep.{Grows, MayGrow}
@@ -61,13 +61,13 @@ module _ (s t u : State) (P Q : Trees → Type 0) (one : Survives s t P) (two : 
 
 -- what lies beside a table is as it was where nothing was done, and after two calls that
 -- leave it so
-pub keeps_none : (db : Database) → KeepsService db db
+pub keeps_none : (db : Database) → KeepsServiceBeside db db
 keeps_none db = record {
   schema = refl;
   service = λ l has is. record { service = refl; orders = refl; outbox = refl };
 }
 
-pub keeps_on : (a b c : Database) → KeepsService a b → KeepsService b c → KeepsService a c
+pub keeps_on : (a b c : Database) → KeepsServiceBeside a b → KeepsServiceBeside b c → KeepsServiceBeside a c
 keeps_on a b c one two = record {
   schema = two.schema ∙ one.schema;
   service = λ l has is.

@@ -5,7 +5,7 @@ use Rattle.inbox.specs.Shown.{is_shown}
 use Rattle.kept_views.specs.Tables.{CountsDays, CountsKinds, EachHasRow, RowsAreOf, Tables}
 
 -- the tables are those of these events, which are among what came
-pub record AreOf (A events : List EventValue) (tables : Tables) : Type 0 where
+pub record AreTablesOf (A events : List EventValue) (tables : Tables) : Type 0 where
   pub kinds : CountsKinds events tables.kinds
   pub days : CountsDays events tables.days
   pub rows : RowsAreOf A events tables.entities

@@ -5,7 +5,7 @@ use Rattle.std.specs.Option.{option_eq, option_map_or, unwrap_or}
 use Rattle.attributes.specs.Event.{EventValue, kind_of, subject_of}
 use Rattle.views.specs.Number.{number_or_0}
 use Rattle.views.specs.Tally.{kind_and_day}
-use Rattle.kept_views.specs.Tables.{KindDay, Rank, Rows, Tables, Entity, counted, is_day, is_slot, place_at, slot_of}
+use Rattle.kept_views.specs.Tables.{KindDay, Rank, Rows, Tables, Entity, count_in_table, is_kind_day, is_slot, row_place_at, slot_of}
 
 -- the count of the type in a table
 abbrev pub count_in : List (List ℕ × ℕ) → List ℕ → ℕ
@@ -13,18 +13,18 @@ count_in rows kind = unwrap_or (lookup (bytes_eq kind) rows) 0
 
 -- the count of the type and day in a table
 abbrev pub day_count_in : List (KindDay × ℕ) → KindDay → ℕ
-day_count_in rows day = unwrap_or (lookup (is_day day) rows) 0
+day_count_in rows day = unwrap_or (lookup (is_kind_day day) rows) 0
 
 -- whether a type and day are those that there may be
 abbrev pub is_own : Option KindDay → KindDay → Bool
-is_own own day = option_map_or (is_day day) own false
+is_own own day = option_map_or (is_kind_day day) own false
 
 -- a count with one more, and with one less
 abbrev pub one_more : ℕ → Option ℕ
 one_more n = Some (n + 1)
 
 abbrev pub one_less : ℕ → Option ℕ
-one_less n = counted (n - 1)
+one_less n = count_in_table (n - 1)
 
 -- the counts of the keys that pass the test change so, and the others stay
 abbrev pub CountsChange : {K : Type 0} → (K → K → Bool) → (K → Bool) → (ℕ → Option ℕ)
@@ -34,25 +34,25 @@ CountsChange {K} same test change old new =
     ≡ (if test k then change (unwrap_or (lookup (same k) old) 0) else lookup (same k) old)
 
 -- a slot has this place from now on, or none, and the others what they had
-abbrev pub PutsAt : Option (Entity × Rank) → Option ℕ → List (Entity × Rows)
+abbrev pub SetsSlot : Option (Entity × Rank) → Option ℕ → List (Entity × Rows)
     → List (Entity × Rows) → Type 0
-PutsAt slot place old new =
+SetsSlot slot place old new =
     (entity : Entity) (rank : Rank)
-    → place_at new entity rank
-    ≡ (if is_slot slot entity rank then place else place_at old entity rank)
+    → row_place_at new entity rank
+    ≡ (if is_slot slot entity rank then place else row_place_at old entity rank)
 
 -- an event came in at a place: its type has one more, and its type and day, and its slot the place
 pub record ComesIn (e : EventValue) (place : ℕ) (old new : Tables) : Type 0 where
   pub kinds : CountsChange bytes_eq (λ k. bytes_eq k (kind_of e)) one_more old.kinds new.kinds
-  pub days : CountsChange is_day (is_own (kind_and_day e)) one_more old.days new.days
-  pub entities : PutsAt (slot_of e) (Some place) old.entities new.entities
+  pub days : CountsChange is_kind_day (is_own (kind_and_day e)) one_more old.days new.days
+  pub entities : SetsSlot (slot_of e) (Some place) old.entities new.entities
 
 -- an event went: its type has one less, and its type and day, and this slot nothing
 pub record GoesOut (e : EventValue) (slot : Option (Entity × Rank)) (old new : Tables)
     : Type 0 where
   pub kinds : CountsChange bytes_eq (λ k. bytes_eq k (kind_of e)) one_less old.kinds new.kinds
-  pub days : CountsChange is_day (is_own (kind_and_day e)) one_less old.days new.days
-  pub entities : PutsAt slot None old.entities new.entities
+  pub days : CountsChange is_kind_day (is_own (kind_and_day e)) one_less old.days new.days
+  pub entities : SetsSlot slot None old.entities new.entities
 
 -- whether two events have one subject or none, and one number
 abbrev pub are_together : EventValue → EventValue → Bool

@@ -19,15 +19,15 @@ pub record HasAdded (source : List ℕ) (base : ℕ) (commands : List Accepted) 
   pub sound : IsDatabase new
 
 -- whatever commands the service accepted
-abbrev pub Adds : ℕ → Accepted → Database → Database → Type 0
-Adds number c old new = (source : List ℕ) (base : ℕ) (commands : List Accepted)
+abbrev pub AddsCommand : ℕ → Accepted → Database → Database → Type 0
+AddsCommand number c old new = (source : List ℕ) (base : ℕ) (commands : List Accepted)
     → number ≡ suc (base + length commands) → IsCommand c
     → refusal base commands c.status c.order ≡ None
     → IsService old source base commands → HasAdded source base commands c old new
 
 -- what a crash may find in place of the old commit
 abbrev pub MayAdd : ℕ → Accepted → State → Trees → Type 0
-MayAdd number c old trees = (db : Database) × Adds number c old.now db × (trees ≡ db.trees)
+MayAdd number c old trees = (db : Database) × AddsCommand number c old.now db × (trees ≡ db.trees)
 
 -- what the rows of the question for an order's status tell
 abbrev pub TellsStatus : List Accepted → ℕ → List Row → Type 0
@@ -36,17 +36,17 @@ TellsStatus commands order (row ∷ more) =
     (s : Status) × (row ≡ Int (pos (code s)) ∷ []) × (status_of commands order ≡ Some s)
 
 -- a row of `outbox` as it is read, and those whose numbers run from this one on
-abbrev pub shown_row : ℕ → Accepted → Row
-shown_row number c =
+abbrev pub stored_row : ℕ → Accepted → Row
+stored_row number c =
     Int (pos number) ∷ Int (pos (code c.status)) ∷ Int (pos c.order) ∷ Words c.at ∷ []
 
-abbrev pub shown_rows : ℕ → List Accepted → List Row
-shown_rows number [] = []
-shown_rows number (c ∷ commands) = shown_row number c ∷ shown_rows (suc number) commands
+abbrev pub stored_rows : ℕ → List Accepted → List Row
+stored_rows number [] = []
+stored_rows number (c ∷ commands) = stored_row number c ∷ stored_rows (suc number) commands
 
 -- a row of `orders` as it is read
-abbrev pub shown_order : ℕ → Status → Row
-shown_order order status = Int (pos order) ∷ Int (pos (code status)) ∷ []
+abbrev pub stored_order : ℕ → Status → Row
+stored_order order status = Int (pos order) ∷ Int (pos (code status)) ∷ []
 
 -- the row of `service` as it is read
 abbrev pub shown_service : List ℕ → ℕ → Row
@@ -56,6 +56,6 @@ shown_service source base = Int (pos 1) ∷ Words source ∷ Int (pos base) ∷ 
 pub record ShowOrders (rows : List Row) (commands : List Accepted) : Type 0 where
   pub sound : (r : Row) → Has rows r
       → (order : ℕ) × (status : Status)
-      × (r ≡ shown_order order status) × (status_of commands order ≡ Some status)
+      × (r ≡ stored_order order status) × (status_of commands order ≡ Some status)
   pub complete : (order : ℕ) (status : Status) → status_of commands order ≡ Some status
-      → Has rows (shown_order order status)
+      → Has rows (stored_order order status)

@@ -1,9 +1,13 @@
 -- What a question leaves to be committed.
-use Rattle.std.specs.Prelude.{◌≡◌}
-use Rattle.sqlite.specs.State.{State}
-use Rattle.outbox.specs.Layout.{ServiceLayout, schema_in}
+use Rattle.std.specs.Prelude.{◌≡◌, OnOk, Result}
+use Rattle.sqlite.specs.State.{State, HasCleanDisk}
+use Rattle.outbox.specs.Layout.{ServiceLayout, schema_in_layout}
 
 -- nothing, where the tables are those of a service
 abbrev pub HasCommitted : State → State → Type 0
-HasCommitted old new = (layout : ServiceLayout) → old.now.schema ≡ schema_in layout
+HasCommitted old new = (layout : ServiceLayout) → old.now.schema ≡ schema_in_layout layout
     → new.now ≡ new.committed
+
+-- where it was done, that was committed
+abbrev pub CommitsIfDone : {A E : Type 0} → State → State → Result A E → Type 0
+CommitsIfDone old new result = HasCleanDisk new → OnOk result (HasCommitted old new)

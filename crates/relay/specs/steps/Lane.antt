@@ -7,10 +7,10 @@ use Rattle.sqlite.specs.State.{State, HasCleanDisk}
 use Rattle.outbox.specs.Order.{Accepted}
 use Rattle.outbox.specs.Row.{rows_of}
 use Rattle.outbox.specs.Service.{IsService}
-use Rattle.outbox.specs.Layout.{ServiceLayout, schema_in}
-use Rattle.relay.specs.Route.{AreIn, AreOf}
+use Rattle.outbox.specs.Layout.{ServiceLayout, schema_in_layout}
+use Rattle.relay.specs.Route.{AreIn, AreFromEither}
 use Rattle.std.specs.List.{AllByRecursion}
-use Rattle.relay.specs.Fan.{AreSent, HasCause, IsAtEnd, IsPage, TakesAll, calls_of, joined, rows_between}
+use Rattle.relay.specs.Fan.{AreSent, HasCauseOfFault, IsAtEnd, IsPage, TakesAll, calls_until, joined, rows_between}
 use Rattle.relay.specs.declared.fault.RelayFault.{RelayFault}
 use Rattle.relay.specs.declared.fault.RelayFault.TheVariants.{OutOfMemory, RouteFailed, Stranger, Store, NoThread, GateShut}
 use Rattle.relay.specs.declared.fan.End.{End}
@@ -20,15 +20,15 @@ use Rattle.relay.specs.declared.fan.lane.Lane.{Lane}
 -- what the end of a lane did to its route
 abbrev pub IsClosed : {R : Type 0} → (R → R → Type 0) → R → Lane R → Type 0
 IsClosed has_failed before lane =
-    MatchOption lane.fault (lane.route ≡ before) (HasCause has_failed before lane.route)
+    MatchOption lane.fault (lane.route ≡ before) (HasCauseOfFault has_failed before lane.route)
 
 -- the calls that a lane made of late: one for each page that was accepted, and the one that failed
 abbrev pub calls_to : Option RelayFault → ℕ → ℕ
 calls_to None pages = pages
-calls_to (Some f) pages = calls_of (Failed f) pages
+calls_to (Some f) pages = calls_until (Failed f) pages
 
 -- the route of a lane that went on was handed these pages and then nothing more, but for one that
--- failed where the lane stopped for it. Each was a call that the gate let through, after the calls
+-- failed where the lane stopped for it. AllAtPlaces was a call that the gate let through, after the calls
 -- before
 pub record Hands {R : Type 0} (takes : R → List EventValue → R → Type 0)
     (has_failed : R → R → Type 0) (lets shuts heard : ℕ → ℕ → Type 0) (old new : Lane R)
@@ -58,7 +58,7 @@ abbrev pub AreBetween : ℕ → List EventValue → ℕ → ℕ → List (List E
 AreBetween base rows from to pages = joined pages ≡ rows_between base rows from to
 
 -- a lane before and after, whatever its rows are
-pub record Moves {R : Type 0} (accepted : R → List EventValue)
+pub record MovesLane {R : Type 0} (accepted : R → List EventValue)
     (takes : R → List EventValue → R → Type 0) (has_failed : R → R → Type 0)
     (lets shuts heard : ℕ → ℕ → Type 0) (old new : Lane R) : Type 0 where
   pub place : new.place ≡ old.place
@@ -73,24 +73,24 @@ pub record Carries {R : Type 0} (accepted : R → List EventValue)
     (takes : R → List EventValue → R → Type 0) (has_failed : R → R → Type 0)
     (lets shuts heard : ℕ → ℕ → Type 0) (start : ℕ) (rows : List EventValue) (old new : Lane R)
     : Type 0 where
-  pub moves : Moves accepted takes has_failed lets shuts heard old new
+  pub moves : MovesLane accepted takes has_failed lets shuts heard old new
   pub within : (new.relay.mark ≡ old.relay.mark) ⊎ (new.relay.mark ≤ start + length rows)
   pub sent : AreSent start rows old.relay.mark new.relay.mark (accepted new.route)
-  pub new_rows : AreOf (accepted new.route) (accepted old.route) rows
+  pub new_rows : AreFromEither (accepted new.route) (accepted old.route) rows
   pub handed : HandsOver takes has_failed lets shuts heard
       (AreBetween start rows old.relay.mark new.relay.mark) old new
 
 -- why a call of a worker failed, or wasn't made: the route failed in it, or the gate was
 -- shut before
-abbrev pub StopsAt : {R : Type 0} → (R → R → Type 0) → (ℕ → ℕ → Type 0) → (ℕ → ℕ → Type 0)
+abbrev pub FailsAt : {R : Type 0} → (R → R → Type 0) → (ℕ → ℕ → Type 0) → (ℕ → ℕ → Type 0)
     → (ℕ → ℕ → Type 0) → ℕ → ℕ → R → R → RelayFault → Type 0
-StopsAt has_failed lets shuts heard worker call old new OutOfMemory = ⊥
-StopsAt has_failed lets shuts heard worker call old new RouteFailed =
+FailsAt has_failed lets shuts heard worker call old new OutOfMemory = ⊥
+FailsAt has_failed lets shuts heard worker call old new RouteFailed =
     has_failed old new × (lets worker call × heard worker call)
-StopsAt has_failed lets shuts heard worker call old new Stranger = ⊥
-StopsAt has_failed lets shuts heard worker call old new Store = ⊥
-StopsAt has_failed lets shuts heard worker call old new NoThread = ⊥
-StopsAt has_failed lets shuts heard worker call old new GateShut = (new ≡ old) × shuts worker call
+FailsAt has_failed lets shuts heard worker call old new Stranger = ⊥
+FailsAt has_failed lets shuts heard worker call old new Store = ⊥
+FailsAt has_failed lets shuts heard worker call old new NoThread = ⊥
+FailsAt has_failed lets shuts heard worker call old new GateShut = (new ≡ old) × shuts worker call
 
 -- it never came to a call: memory, the rows or a thread weren't to be had
 abbrev pub IsQuiet : RelayFault → Type 0
@@ -106,11 +106,11 @@ abbrev pub left : {R : Type 0} → ℕ → List EventValue → Lane R → ℕ
 left start rows lane = steps_left lane.fault (start + length rows - lane.relay.mark)
 
 -- the two lists have one length, and this holds at each place
-abbrev pub Each : {A : Type 0} → {B : Type 0} → (A → B → Type 0) → List A → List B → Type 0
-Each Holds [] [] = ⊤
-Each Holds [] (y ∷ ys) = ⊥
-Each Holds (x ∷ xs) [] = ⊥
-Each Holds (x ∷ xs) (y ∷ ys) = Holds x y × Each Holds xs ys
+abbrev pub AllAtPlaces : {A : Type 0} → {B : Type 0} → (A → B → Type 0) → List A → List B → Type 0
+AllAtPlaces Holds [] [] = ⊤
+AllAtPlaces Holds [] (y ∷ ys) = ⊥
+AllAtPlaces Holds (x ∷ xs) [] = ⊥
+AllAtPlaces Holds (x ∷ xs) (y ∷ ys) = Holds x y × AllAtPlaces Holds xs ys
 
 -- some of the next rows after `start`, and none only where there are none
 pub record IsWindow (base : ℕ) (all : List EventValue) (start : ℕ) (rows : List EventValue)
@@ -127,7 +127,7 @@ ShowsWindow source base start db rows = (commands : List Accepted)
 -- while the disk is honest and the database open, it is what it was, if that was a service's
 abbrev pub IsStill : Database → State → Type 0
 IsStill db s = HasCleanDisk s → IsTrue s.is_open → (layout : ServiceLayout)
-    → db.schema ≡ schema_in layout → s.now ≡ db
+    → db.schema ≡ schema_in_layout layout → s.now ≡ db
 
 -- this holds of the rows of the service that a database stands for, while the disk is honest up to
 -- this state
@@ -140,7 +140,7 @@ pub record Comes {R : Type 0} (accepted : R → List EventValue)
     (takes : R → List EventValue → R → Type 0) (has_failed : R → R → Type 0)
     (lets shuts heard : ℕ → ℕ → Type 0) (source : List ℕ) (base : ℕ) (db : Database)
     (s : State) (old new : Lane R) : Type 0 where
-  pub moves : Moves accepted takes has_failed lets shuts heard old new
+  pub moves : MovesLane accepted takes has_failed lets shuts heard old new
   pub carries : Honestly source base db s (λ rows.
       Carries accepted takes has_failed lets shuts heard base rows old new)
 
@@ -157,8 +157,8 @@ abbrev pub end_after : Option RelayFault → End
 end_after None = Done
 end_after (Some f) = Failed f
 
-abbrev pub end_of : {R : Type 0} → Lane R → End
-end_of lane = end_after lane.fault
+abbrev pub end_of_lane : {R : Type 0} → Lane R → End
+end_of_lane lane = end_after lane.fault
 
 -- the lanes stand in their order, the first at this place
 abbrev pub ArePlaced : {R : Type 0} → ℕ → List (Lane R) → Type 0

@@ -4,10 +4,11 @@ ghost use Rattle.std.specs.Prelude.{◌≡◌, ◌<◌, List, length, IfErr, IfO
 ghost use Rattle.std.specs.Thread.{IsSync, IsSend};
 ghost use Rattle.sqlite.specs.Effect.{Database};
 ghost use Rattle.sqlite.specs.Held.{state};
-ghost use Rattle.outbox.specs.Call.{IsSame};
-ghost use Rattle.relay.specs.steps.Lane.{Comes, Each, IsStill};
+ghost use Rattle.outbox.specs.Call.{IsServiceReading};
+ghost use Rattle.relay.specs.steps.Lane.{Comes, AllAtPlaces, IsStill};
 ghost use Rattle.relay.specs.steps.Slot.{IsEnded, IsOf, Lands};
 ghost use Rattle.relay.specs.declared.fan.lane.Lane.{Lane};
+ghost use Rattle.outbox.specs.Shown.{IsSameService};
 
 use crate::fan::lane::{Lane, stopped};
 use crate::fan::slot::{Slot, start};
@@ -34,9 +35,8 @@ fn advance<'s, E, H: Threads + Wait + Sync, S: Alter, R: Route + Drop + Send + '
     service: &mut Service<S>,
     lane: Lane<R>,
 ) -> Slot<R, G>
-    ensures kept_service { (service.new.source ≡ service.old.source)
-        × (service.new.base ≡ service.old.base) × (service.new.last ≡ service.old.last) }
-    ensures service { IsSame (state S.Store service.old.conn) (state S.Store service.new.conn) }
+    ensures kept_service { IsSameService service.old service.new }
+    ensures service { IsServiceReading (state S.Store service.old.conn) (state S.Store service.new.conn) }
     ensures goes { (db : Database) (old : Lane R)
         → IsStill db (state S.Store service.old.conn)
         → Comes R.accepted R.takes R.has_failed (G.lets gate.now) (G.shuts gate.now)
@@ -86,9 +86,8 @@ fn renew<'s, E, H: Threads + Wait + Sync, S: Alter, R: Route + Drop + Send + 's,
     service: &mut Service<S>,
     slot: Slot<R, G>,
 ) -> Slot<R, G>
-    ensures kept_service { (service.new.source ≡ service.old.source)
-        × (service.new.base ≡ service.old.base) × (service.new.last ≡ service.old.last) }
-    ensures service { IsSame (state S.Store service.old.conn) (state S.Store service.new.conn) }
+    ensures kept_service { IsSameService service.old service.new }
+    ensures service { IsServiceReading (state S.Store service.old.conn) (state S.Store service.new.conn) }
     ensures goes { (db : Database) (old : Lane R)
         → IsStill db (state S.Store service.old.conn)
         → IsOf R.accepted R.takes R.has_failed G.lets G.shuts G.heard gate.now service.old.source
@@ -115,16 +114,15 @@ fn turn<'s, E, H: Threads + Wait + Sync, S: Alter, R: Route + Drop + Send + 's, 
     slots: &mut Vec<Slot<R, G>>,
 )
     requires { place < length slots.old.items }
-    ensures kept_service { (service.new.source ≡ service.old.source)
-        × (service.new.base ≡ service.old.base) × (service.new.last ≡ service.old.last) }
-    ensures service { IsSame (state S.Store service.old.conn) (state S.Store service.new.conn) }
+    ensures kept_service { IsSameService service.old service.new }
+    ensures service { IsServiceReading (state S.Store service.old.conn) (state S.Store service.new.conn) }
     ensures many { length slots.new.items ≡ length slots.old.items }
     ensures goes { (db : Database) (olds : List (Lane R))
         → IsStill db (state S.Store service.old.conn)
-        → Each (IsOf R.accepted R.takes R.has_failed G.lets G.shuts G.heard gate.now
+        → AllAtPlaces (IsOf R.accepted R.takes R.has_failed G.lets G.shuts G.heard gate.now
         service.old.source service.old.base db (state S.Store service.old.conn))
         olds slots.old.items
-        → Each (IsOf R.accepted R.takes R.has_failed G.lets G.shuts G.heard gate.now
+        → AllAtPlaces (IsOf R.accepted R.takes R.has_failed G.lets G.shuts G.heard gate.now
         service.old.source service.old.base db (state S.Store service.new.conn))
         olds slots.new.items }
 {
@@ -132,7 +130,7 @@ fn turn<'s, E, H: Threads + Wait + Sync, S: Alter, R: Route + Drop + Send + 's, 
     slots[place] = renew(scope, rt, alloc, gate, done, refused, service, slot);
 }
 
-/// The first place whose lane is here, to go on.
+/// The place of the first route of a fan-out that no thread sends to, and that is to go on.
 fn first_waiting<R: Route + Drop, G: Gate>(slots: &Vec<Slot<R, G>>) -> Option<usize>
     ensures { IfSome result (λ place. place < length slots.now.items) }
 {
@@ -195,16 +193,15 @@ fn run<'s, E, H: Threads + Wait + Sync, S: Alter, R: Route + Drop + Send + 's, G
     slots: &mut Vec<Slot<R, G>>,
 )
     requires { length slots.old.items ≡ length refused.now.items }
-    ensures kept_service { (service.new.source ≡ service.old.source)
-        × (service.new.base ≡ service.old.base) × (service.new.last ≡ service.old.last) }
-    ensures service { IsSame (state S.Store service.old.conn) (state S.Store service.new.conn) }
+    ensures kept_service { IsSameService service.old service.new }
+    ensures service { IsServiceReading (state S.Store service.old.conn) (state S.Store service.new.conn) }
     ensures ended { All IsEnded slots.new.items }
     ensures goes { (db : Database) (olds : List (Lane R))
         → IsStill db (state S.Store service.old.conn)
-        → Each (IsOf R.accepted R.takes R.has_failed G.lets G.shuts G.heard gate.now
+        → AllAtPlaces (IsOf R.accepted R.takes R.has_failed G.lets G.shuts G.heard gate.now
         service.old.source service.old.base db (state S.Store service.old.conn))
         olds slots.old.items
-        → Each (IsOf R.accepted R.takes R.has_failed G.lets G.shuts G.heard gate.now
+        → AllAtPlaces (IsOf R.accepted R.takes R.has_failed G.lets G.shuts G.heard gate.now
         service.old.source service.old.base db (state S.Store service.new.conn))
         olds slots.new.items }
 {
@@ -249,15 +246,15 @@ fn run_in_scope<'a, H: Threads + Wait + Sync, S: Alter, R: Route + Drop + Send, 
     ensures kept_service { (result.service.now.source ≡ lent.entry.service.now.source)
         × (result.service.now.base ≡ lent.entry.service.now.base)
         × (result.service.now.last ≡ lent.entry.service.now.last) }
-    ensures service { IsSame (state S.Store lent.entry.service.now.conn)
+    ensures service { IsServiceReading (state S.Store lent.entry.service.now.conn)
         (state S.Store result.service.now.conn) }
     ensures ended { All IsEnded result.slots.items }
     ensures goes { (olds : List (Lane R))
-        → Each (IsOf R.accepted R.takes R.has_failed G.lets G.shuts G.heard gate.now
+        → AllAtPlaces (IsOf R.accepted R.takes R.has_failed G.lets G.shuts G.heard gate.now
         lent.entry.service.now.source lent.entry.service.now.base
         (state S.Store lent.entry.service.now.conn).now
         (state S.Store lent.entry.service.now.conn)) olds lent.entry.slots.items
-        → Each (IsOf R.accepted R.takes R.has_failed G.lets G.shuts G.heard gate.now
+        → AllAtPlaces (IsOf R.accepted R.takes R.has_failed G.lets G.shuts G.heard gate.now
         lent.entry.service.now.source lent.entry.service.now.base
         (state S.Store lent.entry.service.now.conn).now
         (state S.Store result.service.now.conn)) olds result.slots.items }
@@ -272,15 +269,15 @@ fn run_in_scope<'a, H: Threads + Wait + Sync, S: Alter, R: Route + Drop + Send, 
                 × ((result.service.now.source ≡ lent.entry.service.now.source)
                 × (result.service.now.base ≡ lent.entry.service.now.base)
                 × (result.service.now.last ≡ lent.entry.service.now.last))
-                × IsSame (state S.Store lent.entry.service.now.conn)
+                × IsServiceReading (state S.Store lent.entry.service.now.conn)
                 (state S.Store result.service.now.conn)
                 × All IsEnded result.slots.items
                 × ((olds : List (Lane R))
-                → Each (IsOf R.accepted R.takes R.has_failed G.lets G.shuts G.heard gate.entry.now
+                → AllAtPlaces (IsOf R.accepted R.takes R.has_failed G.lets G.shuts G.heard gate.entry.now
                 lent.entry.service.now.source lent.entry.service.now.base
                 (state S.Store lent.entry.service.now.conn).now
                 (state S.Store lent.entry.service.now.conn)) olds lent.entry.slots.items
-                → Each (IsOf R.accepted R.takes R.has_failed G.lets G.shuts G.heard gate.entry.now
+                → AllAtPlaces (IsOf R.accepted R.takes R.has_failed G.lets G.shuts G.heard gate.entry.now
                 lent.entry.service.now.source lent.entry.service.now.base
                 (state S.Store lent.entry.service.now.conn).now
                 (state S.Store result.service.now.conn)) olds result.slots.items) }
@@ -306,15 +303,14 @@ pub(super) fn run_slots<H: Threads + Wait + Sync, S: Alter, R: Route + Drop + Se
     slots: Vec<Slot<R, G>>,
 ) -> Vec<Slot<R, G>>
     requires { length slots.items ≡ length refused.now.items }
-    ensures kept_service { (service.new.source ≡ service.old.source)
-        × (service.new.base ≡ service.old.base) × (service.new.last ≡ service.old.last) }
-    ensures service { IsSame (state S.Store service.old.conn) (state S.Store service.new.conn) }
+    ensures kept_service { IsSameService service.old service.new }
+    ensures service { IsServiceReading (state S.Store service.old.conn) (state S.Store service.new.conn) }
     ensures ended { All IsEnded result.items }
     ensures goes { (olds : List (Lane R))
-        → Each (IsOf R.accepted R.takes R.has_failed G.lets G.shuts G.heard gate.now
+        → AllAtPlaces (IsOf R.accepted R.takes R.has_failed G.lets G.shuts G.heard gate.now
         service.old.source service.old.base (state S.Store service.old.conn).now
         (state S.Store service.old.conn)) olds slots.items
-        → Each (IsOf R.accepted R.takes R.has_failed G.lets G.shuts G.heard gate.now
+        → AllAtPlaces (IsOf R.accepted R.takes R.has_failed G.lets G.shuts G.heard gate.now
         service.old.source service.old.base (state S.Store service.old.conn).now
         (state S.Store service.new.conn)) olds result.items }
 {

@@ -2,9 +2,9 @@
 
 ghost use Rattle.std.specs.Prelude.{◌≡◌, ◌⊎◌, ◌<◌, ◌≤◌, ◌-◌, ◌+◌, ℕ, List, length, None, Some, OnOk, IfOk, IfErr};
 ghost use Rattle.attributes.specs.Event.{EventValue};
-ghost use Rattle.relay.specs.Route.{AreIn, AreOf};
+ghost use Rattle.relay.specs.Route.{AreIn, AreFromEither};
 ghost use Rattle.relay.specs.Fan.{AreSent, IsPage, rows_between};
-ghost use Rattle.relay.specs.steps.Lane.{Carries, IsQuiet, StopsAt, left};
+ghost use Rattle.relay.specs.steps.Lane.{Carries, IsQuiet, FailsAt, left};
 ghost use Rattle.relay.specs.declared.fault.RelayFault.TheVariants.{OutOfMemory, Store};
 
 use crate::fault::RelayFault;
@@ -83,10 +83,10 @@ fn send_page<R: Route, G: Gate>(
 ) -> Result<(), RelayFault>
     ensures sent { OnOk result (AreIn page.now (R.accepted route.new)) }
     ensures kept { AreIn (R.accepted route.old) (R.accepted route.new) }
-    ensures new { AreOf (R.accepted route.new) (R.accepted route.old) page.now }
+    ensures new { AreFromEither (R.accepted route.new) (R.accepted route.old) page.now }
     ensures took { OnOk result (R.takes route.old page.now route.new) }
     ensures gated { OnOk result (G.lets gate.now worker call × G.heard gate.now worker call) }
-    ensures fault { IfErr result (StopsAt R.has_failed (G.lets gate.now) (G.shuts gate.now)
+    ensures fault { IfErr result (FailsAt R.has_failed (G.lets gate.now) (G.shuts gate.now)
         (G.heard gate.now) worker call route.old route.new) }
 {
     match gate.before(worker, call) {

@@ -3,9 +3,10 @@
 ghost use Rattle.std.specs.Prelude.{◌≡◌, ◌⊎◌, ◌≤◌, ◌++◌, IsTrue, OnOk, IfOk, IfErr};
 ghost use Rattle.sqlite.specs.State.{HasCleanDisk};
 ghost use Rattle.sqlite.specs.Held.{state};
-ghost use Rattle.outbox.specs.Call.{IsSame};
+ghost use Rattle.outbox.specs.Call.{IsServiceReading};
 ghost use Rattle.relay.specs.steps.Lane.{ShowsWindow};
 ghost use Rattle.relay.specs.declared.fault.RelayFault.TheVariants.{OutOfMemory, Store};
+ghost use Rattle.outbox.specs.Shown.{IsSameService};
 
 use crate::fault::{RelayFault, fault_of};
 use attributes::Batch;
@@ -38,9 +39,8 @@ fn add_page<S: Alter>(
     rows: &mut Batch,
 ) -> Result<bool, RelayFault>
     requires { service.old.base ≤ start }
-    ensures kept_service { (service.new.source ≡ service.old.source)
-        × (service.new.base ≡ service.old.base) × (service.new.last ≡ service.old.last) }
-    ensures service { IsSame (state S.Store service.old.conn) (state S.Store service.new.conn) }
+    ensures kept_service { IsSameService service.old service.new }
+    ensures service { IsServiceReading (state S.Store service.old.conn) (state S.Store service.new.conn) }
     ensures open { HasCleanDisk (state S.Store service.new.conn)
         → OnOk result (IsTrue (state S.Store service.old.conn).is_open) }
     ensures rows { HasCleanDisk (state S.Store service.new.conn) → OnOk result
@@ -70,9 +70,8 @@ pub(crate) fn read_window<S: Alter>(
     start: u64,
 ) -> Result<Batch, RelayFault>
     requires { service.old.base ≤ start }
-    ensures kept_service { (service.new.source ≡ service.old.source)
-        × (service.new.base ≡ service.old.base) × (service.new.last ≡ service.old.last) }
-    ensures service { IsSame (state S.Store service.old.conn) (state S.Store service.new.conn) }
+    ensures kept_service { IsSameService service.old service.new }
+    ensures service { IsServiceReading (state S.Store service.old.conn) (state S.Store service.new.conn) }
     ensures open { HasCleanDisk (state S.Store service.new.conn)
         → OnOk result (IsTrue (state S.Store service.old.conn).is_open) }
     ensures rows { HasCleanDisk (state S.Store service.new.conn) → IfOk result

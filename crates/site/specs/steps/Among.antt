@@ -22,8 +22,8 @@ abbrev pub HasEach : List EventValue → BTreeSet ℕ → List ℕ → Type 0
 HasEach A places ps = (j p : ℕ) → slice_get ps j ≡ Some p → HasPlace A places p
 
 -- no place is this one or greater
-abbrev pub NoneFrom : BTreeSet ℕ → ℕ → Type 0
-NoneFrom places from = (q : ℕ) → from ≤ q → contains nat_cmp places q ≡ false
+abbrev pub NoPlaceFrom : BTreeSet ℕ → ℕ → Type 0
+NoPlaceFrom places from = (q : ℕ) → from ≤ q → contains nat_cmp places q ≡ false
 
 -- this one isn't lesser, and no place stands between
 pub record IsNextFrom (places : BTreeSet ℕ) (from next : ℕ) : Type 0 where

@@ -5,8 +5,8 @@ ghost use Rattle.std.specs.BTreeSet.{contains};
 ghost use Rattle.std.specs.Ordering.{nat_cmp};
 ghost use Rattle.inbox.specs.Sets.{set_of};
 ghost use Rattle.block_digests.specs.Kept.{places_of};
-ghost use Rattle.site.specs.Delta.{AreAll, IsPart, Tells, lacking_of};
-ghost use Rattle.site.specs.steps.Among.{AllIn, HasEach, HasPlace, IsNextFrom, NoneFrom, WantsNone};
+ghost use Rattle.site.specs.Delta.{AreAll, IsDeltaPart, LacksSomeFrom, Tells, lacking_of};
+ghost use Rattle.site.specs.steps.Among.{AllIn, HasEach, HasPlace, IsNextFrom, NoPlaceFrom, WantsNone};
 
 use super::Site;
 use super::delta::{DeltaPart, is_wanting};
@@ -52,7 +52,7 @@ fn add_places(inbox: &Inbox, places: &[u64], found: &mut BTreeSet<u64>) -> Resul
 
 /// The first of the places from a place on.
 fn next_from(places: &BTreeSet<u64>, place: u64) -> Option<u64>
-    ensures { MatchOption result (NoneFrom places.now place) (IsNextFrom places.now place) }
+    ensures { MatchOption result (NoPlaceFrom places.now place) (IsNextFrom places.now place) }
 {
     places.range(place..).next().copied()
 }
@@ -166,11 +166,10 @@ impl Site {
         requires place { place ≤ length (set_of self.now) }
         requires tells { Tells (set_of self.now) peer.now own.now }
         requires all { AreAll (set_of self.now) peer.now among.now }
-        ensures part { IfOk result (IsPart (set_of self.now) peer.now place limit) }
+        ensures part { IfOk result (IsDeltaPart (set_of self.now) peer.now place limit) }
 
         // Memory is wanted for events alone.
-        ensures err { OnErr result (take limit
-            (lacking_of (set_of self.now) peer.now (drop place (set_of self.now))) ≢ []) }
+        ensures err { OnErr result (LacksSomeFrom (set_of self.now) peer.now place limit) }
     {
         let mut events = Batch::empty(self.alloc);
         let len = self.len();
@@ -200,11 +199,10 @@ impl Site {
         requires place { place ≤ length (set_of self.now) }
         requires tells { Tells (set_of self.now) peer.now own.now }
         requires all { IfSome among.now (AreAll (set_of self.now) peer.now) }
-        ensures part { IfOk result (IsPart (set_of self.now) peer.now place limit) }
+        ensures part { IfOk result (IsDeltaPart (set_of self.now) peer.now place limit) }
 
         // Memory is wanted for events alone.
-        ensures err { OnErr result (take limit
-            (lacking_of (set_of self.now) peer.now (drop place (set_of self.now))) ≢ []) }
+        ensures err { OnErr result (LacksSomeFrom (set_of self.now) peer.now place limit) }
     {
         match among {
             Some(among) => self.delta_among(peer, own, among, place, limit),

@@ -3,7 +3,7 @@
 ghost use Rattle.std.specs.Prelude.{◌≡◌, ◌≢◌, ◌≤◌, [], drop, length, take, IfOk, OnErr};
 ghost use Rattle.inbox.specs.Sets.{set_of};
 ghost use Rattle.coverage.specs.Summary.{version_of};
-ghost use Rattle.site.specs.Delta.{IsPart, Tells, delta, is_wanting, lacking_of};
+ghost use Rattle.site.specs.Delta.{IsDeltaPart, LacksSomeFrom, Tells, delta, is_wanting, lacking_of};
 ghost use Rattle.site.specs.Page.{max_page, page};
 
 use super::Site;
@@ -83,11 +83,10 @@ impl Site {
     ) -> Result<DeltaPart, AllocError>
         requires place { place ≤ length (set_of self.now) }
         requires tells { Tells (set_of self.now) peer.now own.now }
-        ensures part { IfOk result (IsPart (set_of self.now) peer.now place limit) }
+        ensures part { IfOk result (IsDeltaPart (set_of self.now) peer.now place limit) }
 
         // Memory is wanted for events alone.
-        ensures err { OnErr result (take limit
-            (lacking_of (set_of self.now) peer.now (drop place (set_of self.now))) ≢ []) }
+        ensures err { OnErr result (LacksSomeFrom (set_of self.now) peer.now place limit) }
     {
         let mut events = Batch::empty(self.alloc);
         let len = self.len();

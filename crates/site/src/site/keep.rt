@@ -6,7 +6,7 @@ ghost use Rattle.inbox.specs.KeyOrder.{key_cmp};
 ghost use Rattle.inbox.specs.Ordered.{IsGapFor, append_new, has};
 ghost use Rattle.inbox.specs.Sets.{set_of};
 ghost use Rattle.inbox.specs.Shown.{is_shown};
-ghost use Rattle.kept_views.specs.Tables.{StandsFor};
+ghost use Rattle.kept_views.specs.Tables.{AreTablesOfShown};
 
 use super::Site;
 use attributes::Sequenced;
@@ -19,11 +19,11 @@ use std::hash::RandomState;
 /// a gap of key order. Where memory is refused to them they are let go: no event is refused for
 /// their sake.
 pub(super) fn bring(views: &mut Option<Box<Views>>, inbox: &Inbox, event: &Sequenced, gap: u64)
-    requires views { IfSome views.old (λ v. StandsFor inbox.now.arrivals v.value) }
+    requires views { IfSome views.old (λ v. AreTablesOfShown inbox.now.arrivals v.value) }
     requires new { has key_cmp inbox.now.arrivals event.now ≡ false }
     requires gap { IsGapFor key_cmp (events inbox.now) event.now gap }
     ensures stand { IfSome views.new
-        (λ v. StandsFor (append_new key_cmp inbox.now.arrivals (event.now ∷ [])) v.value) }
+        (λ v. AreTablesOfShown (append_new key_cmp inbox.now.arrivals (event.now ∷ [])) v.value) }
     ensures none { views.old ≡ None → views.new ≡ None }
 
     // They are let go only at an event that is shown: no other wants memory.
@@ -49,7 +49,7 @@ fn renew(
     state: RandomState,
     inbox: &Inbox,
 ) -> Result<(), AllocError>
-    ensures kept { OnOk result (IsSomeAnd views.new (λ v. StandsFor inbox.now.arrivals v.value
+    ensures kept { OnOk result (IsSomeAnd views.new (λ v. AreTablesOfShown inbox.now.arrivals v.value
         × (v.value.states ≡ replicate 3 (Some state)))) }
     ensures same { OnErr result (views.new ≡ views.old) }
 {

@@ -4,7 +4,7 @@ ghost use Rattle.std.specs.Prelude.{◌≡◌, ◌≢◌, ◌<◌, [], ◌∷◌
 ghost use Rattle.inbox.specs.KeyOrder.{key_cmp};
 ghost use Rattle.inbox.specs.Ordered.{append_new, has};
 ghost use Rattle.inbox.specs.Sets.{set_of, union};
-ghost use Rattle.site.specs.Arrival.{Brings, LacksAt};
+ghost use Rattle.site.specs.Arrival.{Brings, LacksArrivalAt};
 
 use super::Site;
 use super::take::grow;
@@ -47,7 +47,7 @@ impl Site {
         ensures short_taken { IfErr result (λ s. s.taken < length batch.now) }
 
         // Memory was wanted for a new event.
-        ensures short_of_new { IfErr result (λ s. LacksAt self.new batch.now s.taken) }
+        ensures short_of_new { IfErr result (λ s. LacksArrivalAt self.new batch.now s.taken) }
     {
         let before = self.arrived();
         let len = batch.len();
@@ -72,7 +72,7 @@ impl Site {
         ensures short_taken { IfErr result (λ s. s.taken < length (set_of other.now)) }
 
         // Memory was wanted for a new event.
-        ensures short_of_new { IfErr result (λ s. LacksAt self.new (set_of other.now) s.taken) }
+        ensures short_of_new { IfErr result (λ s. LacksArrivalAt self.new (set_of other.now) s.taken) }
     {
         let before = self.arrived();
         for i in 0..other.len() {

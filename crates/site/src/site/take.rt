@@ -8,9 +8,9 @@ ghost use Rattle.inbox.specs.Sets.{set_of, union};
 ghost use Rattle.inbox.specs.Shown.{is_shown};
 ghost use Rattle.block_digests.specs.Kept.{IsKeptOf};
 ghost use Rattle.coverage.specs.Summary.{version_of};
-ghost use Rattle.kept_views.specs.Tables.{StandsFor};
+ghost use Rattle.kept_views.specs.Tables.{AreTablesOfShown};
 ghost use Rattle.views.specs.Number.{HasNumbers};
-ghost use Rattle.site.specs.Arrival.{AreDistinct, AreNumbered, LacksAt};
+ghost use Rattle.site.specs.Arrival.{AreDistinct, HaveEachNumber, LacksArrivalAt};
 
 use super::Site;
 use super::keep::bring;
@@ -34,17 +34,17 @@ pub(super) fn grow(
     gap: u64,
 ) -> Result<(), AllocError>
     requires numbers { HasNumbers inbox.old.arrivals summary.old }
-    requires numbered { AreNumbered inbox.old.arrivals }
+    requires numbered { HaveEachNumber inbox.old.arrivals }
     requires distinct { AreDistinct inbox.old.arrivals }
     requires kept { IsKeptOf inbox.old.arrivals blocks.old }
-    requires views { IfSome views.old (λ v. StandsFor inbox.old.arrivals v.value) }
+    requires views { IfSome views.old (λ v. AreTablesOfShown inbox.old.arrivals v.value) }
     requires new { has key_cmp inbox.old.arrivals event.now ≡ false }
     requires gap { IsGapFor key_cmp (events inbox.old) event.now gap }
     ensures same { inbox.new.arrivals ≡ inbox.old.arrivals }
     ensures room { OnOk result (0 < inbox.new.spare) }
     ensures numbers { OnOk result (HasNumbers
         (append_new key_cmp inbox.old.arrivals (event.now ∷ [])) summary.new) }
-    ensures numbered { OnOk result (AreNumbered
+    ensures numbered { OnOk result (HaveEachNumber
         (append_new key_cmp inbox.old.arrivals (event.now ∷ []))) }
     ensures distinct { OnOk result (AreDistinct
         (append_new key_cmp inbox.old.arrivals (event.now ∷ []))) }
@@ -52,7 +52,7 @@ pub(super) fn grow(
     ensures kept { OnOk result (IsKeptOf
         (append_new key_cmp inbox.old.arrivals (event.now ∷ [])) blocks.new) }
     ensures views { OnOk result (IfSome views.new
-        (λ v. StandsFor (append_new key_cmp inbox.old.arrivals (event.now ∷ [])) v.value)) }
+        (λ v. AreTablesOfShown (append_new key_cmp inbox.old.arrivals (event.now ∷ [])) v.value)) }
     ensures let_go { OnOk result (views.new ≡ None → IfSome views.old
         (λ _. is_shown (set_of (inbox.old.arrivals ++ event.now ∷ [])) event.now ≡ true)) }
     ensures states { OnOk result (IfSome views.new
@@ -90,7 +90,7 @@ impl Site {
         ensures rest { OnOk result (batch.new ≡ drop 1 batch.old) }
         ensures same { OnErr result (self.new ≡ self.old) }
         ensures whole { OnErr result (batch.new ≡ batch.old) }
-        ensures err_of_new { OnErr result (LacksAt self.old batch.old 0) }
+        ensures err_of_new { OnErr result (LacksArrivalAt self.old batch.old 0) }
     {
         let Err(gap) = self.inbox.place_of(batch.at(0)) else {
             sets_are_members();
@@ -132,7 +132,7 @@ impl Site {
         ensures short_taken { IfErr result (λ s. s.taken < length batch.old) }
 
         // Memory was wanted for a new event.
-        ensures short_of_new { IfErr result (λ s. LacksAt self.new batch.old s.taken) }
+        ensures short_of_new { IfErr result (λ s. LacksArrivalAt self.new batch.old s.taken) }
     {
         let before = self.arrived();
         let len = batch.len();

@@ -1,7 +1,7 @@
 -- What the contents of files come to that are the answers of parts.
 use Rattle.std.specs.Prelude.{◌≡◌, ℕ, List}
 use Rattle.views.specs.declared.query.Query.{Query}
-use Rattle.site_commands.specs.Parts.{IsWhole, TellsFault}
+use Rattle.site_commands.specs.Parts.{IsWholeOfFiles, TellsFault}
 use Rattle.site_commands.specs.declared.ending.Ending.{Ending}
 use Rattle.site_commands.specs.declared.ending.Ending.TheVariants as ending
 
@@ -15,7 +15,7 @@ IsRefusalLine line _ = ⊥
 abbrev pub IsContentsEnding : Query → List (List ℕ) → List (List ℕ) → List (List ℕ)
     → List (List ℕ) → Ending → Type 0
 IsContentsEnding q files cover_files answers covers (ending.Answer text) =
-    IsWhole q answers covers text
+    IsWholeOfFiles q answers covers text
 IsContentsEnding q files cover_files answers covers (ending.Uncombined text hint) =
     TellsFault q files cover_files answers covers text
 IsContentsEnding q files cover_files answers covers ending.NoMemory = Unit {0}

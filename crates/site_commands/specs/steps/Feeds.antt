@@ -1,6 +1,6 @@
 -- Why feeds have nothing to read.
 use Rattle.std.specs.Prelude.{◌≡◌, Bool, true, ℕ, List}
-use Rattle.site_commands.specs.Jobs.{IsFirstUnread}
+use Rattle.site_commands.specs.Jobs.{IsFirstUnreadLine}
 use Rattle.site_commands.specs.Pieces.{lines_behind}
 use Rattle.site_commands.specs.declared.batches.FeedFault.{FeedFault}
 use Rattle.site_commands.specs.declared.batches.FeedFault.TheVariants as feed
@@ -9,4 +9,4 @@ use Rattle.site_commands.specs.declared.batches.FeedFault.TheVariants as feed
 abbrev pub HasNoFeeds : Bool → ℕ → List (List ℕ) → FeedFault → Type 0
 HasNoFeeds has_lines first contents feed.OutOfMemory = Unit {0}
 HasNoFeeds has_lines first contents (feed.Line refused) =
-    (has_lines ≡ true) × IsFirstUnread (lines_behind first contents) refused
+    (has_lines ≡ true) × IsFirstUnreadLine (lines_behind first contents) refused

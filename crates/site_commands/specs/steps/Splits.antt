@@ -11,7 +11,7 @@ use Rattle.site_commands.specs.declared.split.SplitFault.{SplitFault}
 use Rattle.site_commands.specs.declared.split.SplitFault.TheVariants as fault
 
 -- these are all parts of the events
-pub record ArePartsOf (count : ℕ) (events : List EventValue) (parts : List (List EventValue))
+pub record AreAllParts (count : ℕ) (events : List EventValue) (parts : List (List EventValue))
     : Type 0 where
   pub len : length parts ≡ count
   pub each : (i : ℕ) → i < count → slice_get parts i ≡ Some (part (part_of count) i events)

@@ -4,13 +4,13 @@ use Rattle.std.proofs.Common.{sym, ap, ◌∙◌, append_assoc, append-nil}
 use Rattle.site.specs.declared.call.Call.{Call}
 use Rattle.turn_lock.specs.declared.machine.Entry.{Entry}
 use Rattle.turn_lock.specs.History.{entry}
-use Rattle.site_lock.specs.Pass.{Shown, Steps}
+use Rattle.site_lock.specs.Pass.{ShownPass, Steps}
 
 map-append : {X Y : Type 0} (f : X → Y) (xs ys : List X) → map f (xs ++ ys) ≡ map f xs ++ map f ys
 map-append f [] ys = refl
 map-append f (x ∷ xs) ys = ap (λ l. f x ∷ l) (map-append f xs ys)
 
-pub steps_none : (p : Shown) → Steps p p []
+pub steps_none : (p : ShownPass) → Steps p p []
 steps_none p = record {
   seen = ([], sym (append-nil p.seen));
   mine = sym (append-nil p.mine);
@@ -18,7 +18,7 @@ steps_none p = record {
   same = record { table = refl; number = refl; opening = refl };
 }
 
-pub steps_on : (p q r : Shown) (m n : List Call) → Steps p q m → Steps q r n → Steps p r (m ++ n)
+pub steps_on : (p q r : ShownPass) (m n : List Call) → Steps p q m → Steps q r n → Steps p r (m ++ n)
 steps_on p q r m n h k = record {
   seen = (
     h.seen.0 ++ k.seen.0,

@@ -5,7 +5,7 @@ ghost use Rattle.coverage.specs.Summary.{version_of};
 ghost use Rattle.inbox.specs.Sets.{set_of};
 ghost use Rattle.site.specs.Delta.{delta};
 ghost use Rattle.site.specs.Desk.{answered, paged, summed};
-ghost use Rattle.site.specs.Machine.{Answers, call};
+ghost use Rattle.site.specs.Machine.{HasRightReply, call};
 ghost use Rattle.site.specs.Page.{max_page, page};
 ghost use Rattle.site.specs.declared.call.Command.TheVariants as command;
 ghost use Rattle.site_lock.specs.Pass.{Made, leaves};
@@ -23,7 +23,7 @@ use views::{Answer, Query};
 
 /// The answer to a question, as a desk answers.
 fn answer(site: &Site, query: Query) -> Result<Answer, DeskFault>
-    ensures answers { Answers site.now (call (command.Query query) (answered result)) }
+    ensures answers { HasRightReply site.now (call (command.Query query) (answered result)) }
     ensures err { OnErr result (set_of site.now ≢ []) }
     ensures rows { OnErr result (MayWantMemory query (set_of site.now)) }
 {
@@ -33,7 +33,7 @@ fn answer(site: &Site, query: Query) -> Result<Answer, DeskFault>
 /// The summary, as a desk answers.
 fn summary(site: &mut Site) -> Result<Summary, DeskFault>
     ensures same { site.new ≡ site.old }
-    ensures answers { Answers site.old (call command.Summary (summed result)) }
+    ensures answers { HasRightReply site.old (call command.Summary (summed result)) }
     ensures err { OnErr result (set_of site.old ≢ []) }
 {
     Ok(site.summary()?)
@@ -44,7 +44,7 @@ fn delta_page(site: &mut Site, peer: &Summary, from: u64, limit: u64) -> Result<
     requires low { 1 ≤ limit }
     requires high { limit ≤ max_page }
     ensures same { site.new ≡ site.old }
-    ensures answers { Answers site.old
+    ensures answers { HasRightReply site.old
         (call (command.DeltaPage peer.now from limit) (paged result)) }
     ensures err { OnErr result (set_of site.old ≢ []) }
     ensures err_of_numbers { OnErr result (version_of peer.now ≡ 1
@@ -57,7 +57,7 @@ fn delta_page(site: &mut Site, peer: &Summary, from: u64, limit: u64) -> Result<
 fn key_page(site: &Site, from: u64, limit: u64) -> Result<Batch, DeskFault>
     requires low { 1 ≤ limit }
     requires high { limit ≤ max_page }
-    ensures answers { Answers site.now (call (command.Page from limit) (paged result)) }
+    ensures answers { HasRightReply site.now (call (command.Page from limit) (paged result)) }
     ensures err { OnErr result (page (set_of site.now) from limit ≢ []) }
 {
     Ok(site.page(from, limit)?)
@@ -67,7 +67,7 @@ fn key_page(site: &Site, from: u64, limit: u64) -> Result<Batch, DeskFault>
 fn arrivals_after(site: &Site, n: u64, limit: u64) -> Result<Batch, DeskFault>
     requires low { 1 ≤ limit }
     requires high { limit ≤ max_page }
-    ensures answers { Answers site.now (call (command.Fresh n limit) (paged result)) }
+    ensures answers { HasRightReply site.now (call (command.Fresh n limit) (paged result)) }
     ensures err { OnErr result (page site.now n limit ≢ []) }
 {
     Ok(site.arrivals_after(n, limit)?)

@@ -1,9 +1,9 @@
 //! Events taken in a turn.
 
 ghost use Rattle.std.specs.Prelude.{◌≡◌, [], drop, IfErr, OnOk};
-ghost use Rattle.site.specs.Arrival.{LacksAt};
+ghost use Rattle.site.specs.Arrival.{LacksArrivalAt};
 ghost use Rattle.site.specs.Desk.{taken_of, took};
-ghost use Rattle.site.specs.Machine.{Answers, arrivals_after, call};
+ghost use Rattle.site.specs.Machine.{HasRightReply, arrivals_after, call};
 ghost use Rattle.site.specs.declared.call.Command.TheVariants as command;
 ghost use Rattle.site_lock.specs.Pass.{Made, leaves};
 
@@ -19,12 +19,12 @@ use std::sync::Wait;
 
 /// Takes the events of a batch, as a desk does.
 fn take_batch(site: &mut Site, batch: &mut Batch) -> Result<Counts, DeskFault>
-    ensures answers { Answers site.old (call (command.Take batch.old) (took result)) }
+    ensures answers { HasRightReply site.old (call (command.Take batch.old) (took result)) }
     ensures arrivals { site.new
         ≡ arrivals_after site.old (call (command.Take batch.old) (took result)) }
     ensures emptied { OnOk result (batch.new ≡ []) }
     ensures rest { IfErr result (λ fault. batch.new ≡ drop (taken_of fault) batch.old) }
-    ensures short_of_new { IfErr result (λ fault. LacksAt site.new batch.old (taken_of fault)) }
+    ensures short_of_new { IfErr result (λ fault. LacksArrivalAt site.new batch.old (taken_of fault)) }
 {
     match site.take_batch(batch) {
         Ok(counts) => Ok(counts),
@@ -51,7 +51,7 @@ impl SharedSite {
 
         // Memory was wanted for a new event.
         ensures short_of_new { IfErr result (λ fault.
-            LacksAt (leaves pass.new) batch.old (taken_of fault)) }
+            LacksArrivalAt (leaves pass.new) batch.old (taken_of fault)) }
     {
         let seat = &mut pass.seat;
         let Held { mut site } = self.turns.enter(rt, seat);

@@ -3,7 +3,7 @@ use Rattle.std.specs.Option.{option_map_or}
 use Rattle.std.specs.BTreeSet.{insert_key}
 use Rattle.attributes.specs.Event.{text}
 use Rattle.block_digests.specs.Number.{number_or_0}
-use Rattle.block_digests.specs.steps.Rows.{row_cmp}
+use Rattle.block_digests.specs.steps.Rows.{numbered_text_cmp}
 use Rattle.block_digests.proofs.RowLemmas.{seen_key}
 use Rattle.block_digests.proofs.PlaceLemmas.{row_missing, row_placed}
 use Rattle.block_digests.proofs.blocks.rows_at.Goals.{in-Some+in_ok-insert, in_default}
@@ -19,8 +19,8 @@ loop-i-preserved g c =
           let own : w.text.result.now ≡ text e = w.text.ensures.text ∙ ap text w.event.ensures in
           ap (λ s. map (λ r. (r.0, r.1.now)) s.keys) w.set-is
           ∙ ap (map (λ r. (r.0, r.1.now))) w.in_ok-insert.ensures.keys
-          ∙ seen_key (λ r. (r.0, r.1.now)) row_cmp c.loop-i.set.keys (w.number-in-Some.result, w.text.result)
-          ∙ ap₂ (λ ks r. insert_key row_cmp ks r) c.loop-i.invariant (ap₂ (λ n t. (n, t)) number own)
+          ∙ seen_key (λ r. (r.0, r.1.now)) numbered_text_cmp c.loop-i.set.keys (w.number-in-Some.result, w.text.result)
+          ∙ ap₂ (λ ks r. insert_key numbered_text_cmp ks r) c.loop-i.invariant (ap₂ (λ n t. (n, t)) number own)
           ∙ row_placed A c.args.places.now c.loop-i.i e c.loop-i-test.true (sym w.in-Some.ensures)
       | in_default w ↦
           ap (λ s. map (λ r. (r.0, r.1.now)) s.keys) w.set-is ∙ c.loop-i.invariant

@@ -6,7 +6,7 @@ use Rattle.sqlite.specs.State.{State, HasCleanDisk}
 use Rattle.database_layout.specs.Layout.{has_name}
 use Rattle.outbox.specs.Call.{Leaves}
 use Rattle.outbox.specs.Shown.{IsNoService}
-use Rattle.databases.specs.Service.{IsTold}
+use Rattle.databases.specs.Service.{IsServiceTold}
 use Rattle.databases.specs.declared.fault.CommandFault.TheVariants as command
 use Rattle.database_commands.proofs.DescribedLemmas.{describes, describes_one, says_both, says_one, untold}
 use Rattle.database_commands.proofs.described.describe.Goals as goal
@@ -37,7 +37,7 @@ pub returns-in-Ok-outcome-clause-told : goal.returns-in-Ok-outcome-clause-told
 returns-in-Ok-outcome-clause-told g c clean =
     let mid : HasCleanDisk (state g.S.Store c.inbox_line.new.conn) = omega (arith, c.told-conn.ensures.left.clean, clean) in
     let told = IfOk-at_ok _ c.in-Ok-outcome.is (c.told-conn.ensures.told clean) in
-    let rest : IsTold (state g.S.Store c.args.conn).now c.in-Ok-outcome.more = subst (λ (d : Database). IsTold d c.in-Ok-outcome.more) (c.in-Ok.ensures.same mid) told.2 in
+    let rest : IsServiceTold (state g.S.Store c.args.conn).now c.in-Ok-outcome.more = subst (λ (d : Database). IsServiceTold d c.in-Ok-outcome.more) (c.in-Ok.ensures.same mid) told.2 in
     IfOk-weaker c.joined-outcome.result _ _
     (λ text both. describes c.args.name.now (state g.S.Store c.args.conn).now c.in-Ok.line c.in-Ok-outcome.more text (c.in-Ok.ensures.told mid) (inr rest) both)
     c.joined-outcome.ensures.both

@@ -1,6 +1,6 @@
 use Rattle.std.proofs.Common.{refl, sym, ◌∙◌, subst}
 use Rattle.exchange.specs.Schedule.{FitsIn}
-use Rattle.exchange.specs.Standing.{Stands}
+use Rattle.exchange.specs.Standing.{StandAtPlaces}
 use Rattle.exchange.proofs.StandingLemmas.{fits_at, world_after-next}
 use Rattle.exchange.proofs.machine.run_steps.Goals as goal
 
@@ -16,6 +16,6 @@ make_step-requires c =
 
 pub loop-done-preserved : goal.loop-done-preserved
 loop-done-preserved c = record {
-  stands = λ w s. subst (λ v. Stands c.make_step.new.hosts.items v) (sym (world_after-next c.args.steps.now c.loop-done.done c.at.result.now w c.at.ensures)) (c.in_default.ensures.made _ (c.loop-done.invariant.stands w s));
+  stands = λ w s. subst (λ v. StandAtPlaces c.make_step.new.hosts.items v) (sym (world_after-next c.args.steps.now c.loop-done.done c.at.result.now w c.at.ensures)) (c.in_default.ensures.made _ (c.loop-done.invariant.stands w s));
   sites = c.make_step.ensures.sites ∙ c.loop-done.invariant.sites;
 }

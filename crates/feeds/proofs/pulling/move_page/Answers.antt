@@ -1,5 +1,5 @@
 use Rattle.std.proofs.Common.{[], refl, sym, subst, rules, arith}
-use Rattle.feeds.specs.steps.Tally.{Gains}
+use Rattle.feeds.specs.steps.Tally.{ComesBehindOthers}
 use Rattle.feeds.proofs.CauseLemmas.{early_if}
 use Rattle.feeds.proofs.GateLemmas.{gated_by, gated_count, gated_on}
 use Rattle.feeds.proofs.PullLemmas.{moved, moved_last, moved_not, replied_page}
@@ -20,7 +20,7 @@ returns-clause-moves g c = let p = c.in-Ok.ensures.page in let f = c.flush.ensur
   p.1,
   f.1,
   moved _ _ _ _ _ _ _ _ _ p.2 c.in-Ok.ensures.same f.2,
-  (λ none. subst (λ z. Gains (g.E.Desk.arrivals c.args.to.now) z (g.E.Desk.arrivals c.flush.new.desk)) (sym (replied_page _ _ _ _ p.2)) (c.flush.ensures.gains none)),
+  (λ none. subst (λ z. ComesBehindOthers (g.E.Desk.arrivals c.args.to.now) z (g.E.Desk.arrivals c.flush.new.desk)) (sym (replied_page _ _ _ _ p.2)) (c.flush.ensures.gains none)),
   (λ done. absurd (early_if _ _ _ done f.2.stop)),
   gated_on _ _ _ _ _ _ _ p.3 refl f.3,
 )

@@ -1,8 +1,10 @@
 use Rattle.std.proofs.Common.{◌≡◌, ◌∙◌, ◌++◌, ◌∷◌, ◌+◌, ℕ, List, [], ap, sym, subst, take, length, refl, append-nil}
 use Rattle.inbox.specs.Sets.{set_of}
 use Rattle.attributes.specs.Event.{EventValue}
-use Rattle.file_reports.specs.Reports.{EachReads, KeepsFiles}
-use Rattle.file_reports.proofs.FileLemmas.{Gains-permutation, KeepsFiles-more, file_there, files_before, files_on, first_fits, length_more, no_rest, refusal_by}
+use Rattle.event_files.specs.Files.{EachReads}
+use Rattle.file_reports.specs.Reports.{KeepsFiles}
+use Rattle.file_reports.proofs.FileLemmas.{GainsSet-permutation, KeepsFiles-more}
+use Rattle.event_files.proofs.FileLemmas.{file_there, files_before, files_on, first_fits, length_more, no_rest, refusal_by}
 use Rattle.file_reports.proofs.intake.site_of.Goals as goal
 
 pub loop-bytes-init : goal.loop-bytes-init
@@ -52,6 +54,6 @@ loop-bytes-preserved g c =
       ap (λ (n : ℕ). n + 1) h.2 ∙ sym (length_more h.0 b),
       KeepsFiles-more h.0 b spelled.ordered c.loop-bytes.site c.take_file.new.site
           h.3 spelled.spells.reads spelled.spells.numbered spelled.spells.are
-          (Gains-permutation c.sets_are_members.ensures h.0 spelled.ordered took.events c.loop-bytes.site c.take_file.new.site
+          (GainsSet-permutation c.sets_are_members.ensures h.0 spelled.ordered took.events c.loop-bytes.site c.take_file.new.site
           h.3 spelled.spells.are spelled.same took.gains),
     )

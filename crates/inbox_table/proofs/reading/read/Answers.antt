@@ -5,7 +5,7 @@ use Rattle.sqlite.specs.State.{CommitsShowing, HasCleanDisk, IsUnchanged, Surviv
 use Rattle.sqlite.proofs.StateLemmas.{survives_then}
 use Rattle.inbox_table.specs.Rows.{IsListed}
 use Rattle.inbox_table.specs.Texts.{select_text}
-use Rattle.inbox_table.specs.steps.Reads.{IsSame, Tells}
+use Rattle.inbox_table.specs.steps.Reads.{IsTableReading, TellsRows}
 use Rattle.inbox_table.proofs.ReadLemmas.{at_start, begun_same}
 use Rattle.inbox_table.proofs.SameLemmas.{kept_same, kept_then, on_weaker, refused_same, survives_reading}
 use Rattle.inbox_table.proofs.reading.read.Goals as goal
@@ -50,7 +50,7 @@ survived g c =
 pub returns-clause-tells : goal.returns-clause-tells
 returns-clause-tells g c clean =
     let late = clean_end g c clean in
-    IfOk-weaker c.read_rows.result _ _ (λ f it. subst (λ db. Tells c.args.version (g.W.Wanted.wanted c.args.wanted.now) db f.rows f.events) (begun g c late).0.now_is it) (c.read_rows.ensures.tells late)
+    IfOk-weaker c.read_rows.result _ _ (λ f it. subst (λ db. TellsRows c.args.version (g.W.Wanted.wanted c.args.wanted.now) db f.rows f.events) (begun g c late).0.now_is it) (c.read_rows.ensures.tells late)
 
 pub returns-clause-foreign : goal.returns-clause-foreign
 returns-clause-foreign g c clean =
@@ -79,5 +79,5 @@ returns-clause-same g c =
     let start = state g.S.Store c.in_ok-rows.rows.conn.now in
     let last = state g.S.Store c.read_rows.new.rows.conn.now in
     let auto : IsTrue c.is_autocommit.result = search rules in
-    subst (λ h. IsSame old (state g.S.Store h)) (ends g c)
+    subst (λ h. IsTableReading old (state g.S.Store h)) (ends g c)
     (kept_same old last _ (survived g c) (c.is_autocommit.ensures.settled auto) (λ clean. kept_then old start last (begun g c clean) (c.read_rows.ensures.kept clean)))

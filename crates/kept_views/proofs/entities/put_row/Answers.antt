@@ -2,7 +2,7 @@ use Rattle.std.proofs.Common.{rules, sym, ap, subst, ◌∙◌, Some}
 use Rattle.std.specs.Map.{lookup}
 use Rattle.std.specs.Option.{option_copied_mut}
 use Rattle.std.proofs.lemmas.Result.{err_from_is_err_and}
-use Rattle.kept_views.specs.steps.Moves.{PutsAt}
+use Rattle.kept_views.specs.steps.Moves.{SetsSlot}
 use Rattle.kept_views.specs.steps.Seen.{rank_in, slot_in, entity_in, entities_in}
 use Rattle.kept_views.proofs.TableLemmas.{at_entity, put_back, puts_at, rows_begin, rows_change}
 use Rattle.kept_views.proofs.entities.put_row.Goals as goal
@@ -26,6 +26,6 @@ returns-clause-ok c =
     let rows = c.insert-2.new.self in
     let was = c.get_mut.follows.lender-at-none in
     let none-was = ap (λ m. lookup (at_entity (entity_in c.args.slot.entity)) m.entries) c.get_mut.follows.holds-at-none ∙ none in
-    subst (λ m. PutsAt (Some (slot_in c.args.slot)) (Some c.args.place) (entities_in m.entries) (entities_in c.insert-3.new.self.entries)) c.get_mut.follows.holds-at-none
+    subst (λ m. SetsSlot (Some (slot_in c.args.slot)) (Some c.args.place) (entities_in m.entries) (entities_in c.insert-3.new.self.entries)) c.get_mut.follows.holds-at-none
     (puts_at (entity_in c.args.slot.entity) (rank_in c.args.slot.rank) (Some c.args.place) was.entries c.insert-3.new.self.entries (Some rows) c.in_ok-insert-3.ensures.updates.3 c.in_ok-insert-3.ensures.updates.1
     (rows_begin (entity_in c.args.slot.entity) (rank_in c.args.slot.rank) (Some c.args.place) was.entries c.new-rows.result rows none-was c.new-rows.ensures.empty c.in_ok-insert-2.ensures.updates.3 c.in_ok-insert-2.ensures.updates.1))

@@ -1,6 +1,6 @@
 use Rattle.std.proofs.Common.{rules, sym, ap, subst, ◌∙◌, None, Some}
 use Rattle.std.specs.Option.{option_copied_mut}
-use Rattle.kept_views.specs.steps.Moves.{PutsAt}
+use Rattle.kept_views.specs.steps.Moves.{SetsSlot}
 use Rattle.kept_views.specs.steps.Seen.{rank_in, slot_in, entity_in, entities_in}
 use Rattle.kept_views.proofs.TableLemmas.{nothing_there, puts_at, rows_change, entity_goes}
 use Rattle.kept_views.proofs.entities.take_row_out.Goals as goal
@@ -8,7 +8,7 @@ use Rattle.kept_views.proofs.entities.take_row_out.Goals as goal
 pub returns-in_default-clause-rows : goal.returns-in_default-clause-rows
 returns-in_default-clause-rows c =
     let none = sym c.get_mut.ensures.value ∙ ap option_copied_mut c.in_default.is in
-    subst (λ m. PutsAt (Some (slot_in c.args.slot.now)) None (entities_in c.args.entities.now.entries) (entities_in m.entries)) (sym c.get_mut.follows.holds-at-none)
+    subst (λ m. SetsSlot (Some (slot_in c.args.slot.now)) None (entities_in c.args.entities.now.entries) (entities_in m.entries)) (sym c.get_mut.follows.holds-at-none)
     (nothing_there (entity_in c.args.slot.now.entity) (rank_in c.args.slot.now.rank) c.args.entities.now.entries none)
 
 pub returns-then-is_empty-clause-rows : goal.returns-then-is_empty-clause-rows

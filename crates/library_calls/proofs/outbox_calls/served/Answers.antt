@@ -1,7 +1,7 @@
 use Rattle.std.proofs.Common.{Err, subst}
 use Rattle.sqlite.specs.Files.{file_state, over_files}
 use Rattle.outbox.specs.Shown.{IsAllowed}
-use Rattle.library_calls.specs.Outboxes.{Finds, FindsMeant}
+use Rattle.library_calls.specs.Outboxes.{FindsServiceOrWhy, FindsMeant}
 use Rattle.library_calls.proofs.OutboxLemmas.{serves, serves_none}
 use Rattle.library_calls.proofs.outbox_calls.served.Goals as goal
 
@@ -19,5 +19,5 @@ returns c =
     let conn = c.in-Ok-connect.conn in
     serves_none c.args.has_source c.args.source.now c.args.base conn c.in-Err-service_of.unserved c.closed.result
     (subst (λ t. IsAllowed t c.args.base) same c.in-Ok.ensures.ok.1) c.in-Ok-connect.ensures.over
-    (subst (λ t. Finds over_files c.args.has_source t c.args.base (file_state conn) (Err c.in-Err-service_of.unserved)) same c.in-Err-service_of.ensures)
+    (subst (λ t. FindsServiceOrWhy over_files c.args.has_source t c.args.base (file_state conn) (Err c.in-Err-service_of.unserved)) same c.in-Err-service_of.ensures)
     c.closed.ensures.status c.closed.ensures.closes

@@ -2,19 +2,19 @@ use Rattle.std.proofs.Common.{◌≤◌, ◌∙◌, List, ap, inl, inr, length, 
 use Rattle.std.specs.Borrow.{Bor}
 use Rattle.parts.specs.Summaries.{AreSummaries}
 use Rattle.parts.specs.declared.fault.CombineFault.TheVariants as fault
-use Rattle.library_calls.specs.Parts.{IsNoText, cut}
+use Rattle.library_calls.specs.Parts.{IsNoPartText, cut}
 use Rattle.library_calls.proofs.CutLemmas.{all_there, summed_up}
 use Rattle.library_calls.proofs.part_calls.whole_summary.Goals as goal
 
 pub returns-in-Err-NoText-clause-refused : goal.returns-in-Err-NoText-clause-refused
 returns-in-Err-NoText-clause-refused c =
-    let none = subst (λ (l : List ℕ). IsNoText c.args.bytes.now l c.in-Err-NoText.part) c.first_lengths-looked_at.ensures
+    let none = subst (λ (l : List ℕ). IsNoPartText c.args.bytes.now l c.in-Err-NoText.part) c.first_lengths-looked_at.ensures
     (c.in-Err-NoText.ensures.err c.in-Err-NoText.part (search rules)) in
     inr (inl (c.in-Err-NoText.part, ap (λ k. fault.NotAnAnswer k) c.in-Err-NoText.part-is, none))
 
 pub returns-in-Err-NoText-clause-taken : goal.returns-in-Err-NoText-clause-taken
 returns-in-Err-NoText-clause-taken c =
-    let none = subst (λ (l : List ℕ). IsNoText c.args.bytes.now l c.in-Err-NoText.part) c.first_lengths-looked_at.ensures
+    let none = subst (λ (l : List ℕ). IsNoPartText c.args.bytes.now l c.in-Err-NoText.part) c.first_lengths-looked_at.ensures
     (c.in-Err-NoText.ensures.err c.in-Err-NoText.part (search rules)) in
     λ given p E parts. absurd (all_there c.args.bytes.now _ c.in-Err-NoText.part given.0 given.1 none)
 

@@ -3,7 +3,7 @@ use Rattle.std.specs.List.{AllByRecursion}
 use Rattle.attributes.specs.Fault.{IsEvent}
 use Rattle.inbox.proofs.ReadLemmas.{take_next}
 use Rattle.inbox_table.specs.Calls.{joined}
-use Rattle.numbers.specs.Counts.{IsCount}
+use Rattle.numbers.specs.Counts.{IsCountOf}
 use Rattle.numbers.specs.Numberer.{taken}
 use Rattle.number_table.specs.Each.{AnswersEach, AreNumberedEach}
 use Rattle.number_table.proofs.EachLemmas.{all_more, bare_at, each_more, numbered_more, taken_more}
@@ -27,6 +27,6 @@ loop-i-preserved c =
           let was = c.loop-i.invariant.3 base A h in
           let got = c.in_ok-batch.ensures.numbers base (taken A (joined (take i lists))) was.1 in (
             subst (λ Y. AnswersEach base A (take (i + 1) lists) Y) (sym c.in_ok-push.ensures.ok) (subst (λ K. AnswersEach base A K (X ++ M ∷ [])) (sym more) (each_more base A (take i lists) X L M was.0 got.0)),
-            subst (λ B. IsCount base B c.number_all.new.counted) (sym (ap (λ K. taken A (joined K)) more ∙ taken_more A (take i lists) L)) got.1,
+            subst (λ B. IsCountOf base B c.number_all.new.counted) (sym (ap (λ K. taken A (joined K)) more ∙ taken_more A (take i lists) L)) got.1,
           ),
     )

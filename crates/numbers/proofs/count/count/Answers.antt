@@ -2,7 +2,7 @@ use Rattle.std.proofs.Common.{◌≡◌, ◌∙◌, inr, ap, sym, subst, None, [
 use Rattle.attributes.specs.Event.{source_of, text}
 use Rattle.attributes.specs.Members.{value_at}
 use Rattle.attributes.specs.Sequence.{max_sequence}
-use Rattle.numbers.specs.Counts.{IsCount, counted, next}
+use Rattle.numbers.specs.Counts.{IsCountOf, counted, next}
 use Rattle.numbers.specs.Numberer.{taken}
 use Rattle.numbers.proofs.CountLemmas.{grown_by, is_new, new_step, next_is}
 use Rattle.numbers.proofs.count.count.Goals as goal
@@ -36,5 +36,5 @@ returns-clause-next c is_next base A h =
     let same = c.in_ok-add.ensures ∙ ap (λ t. counted counts t c.source-2.result.now) c.text-2.ensures.text ∙ ap (λ s. counted counts (text e) s) c.source-2.ensures.value in (
       grown_by A e (is_new base A counts e event none h),
       own ∙ next_is base A counts e event none h,
-      subst (IsCount base (taken A (e ∷ []))) (sym same) (new_step base A counts e event none h),
+      subst (IsCountOf base (taken A (e ∷ []))) (sym same) (new_step base A counts e event none h),
     )

@@ -2,8 +2,8 @@ use Rattle.std.proofs.Common.{◌≡◌, ◌∙◌, ◌+◌, [], ◌∷◌, ◌+
 use Rattle.std.specs.List.{AllByRecursion}
 use Rattle.attributes.specs.Fault.{IsEvent}
 use Rattle.inbox.proofs.ReadLemmas.{take_next}
-use Rattle.numbers.specs.Counts.{IsCount}
-use Rattle.numbers.specs.Numbered.{AreNumbered, HasNumber, HaveNumbers}
+use Rattle.numbers.specs.Counts.{IsCountOf}
+use Rattle.numbers.specs.Numbered.{AreEachNumbered, HasNumber, HaveNumbers}
 use Rattle.numbers.specs.Numberer.{number, taken}
 use Rattle.numbers.proofs.BatchLemmas.{all_more, numbered_more}
 use Rattle.numbers.proofs.CountLemmas.{turn_step}
@@ -17,10 +17,10 @@ loop-i-preserved c =
     let X = c.loop-i.batch in
     let x = c.in_ok-numbered.field-0 in (
       subst (AllByRecursion IsEvent) (sym c.in_ok-push.ensures.ok) (all_more X x c.loop-i.invariant.0 c.in_ok-numbered.ensures.event),
-      subst (λ Y. AreNumbered (take (i + 1) L) Y) (sym c.in_ok-push.ensures.ok) (subst (λ K. AreNumbered K (X ++ x ∷ [])) (sym (take_next L i e c.at-event.ensures)) (numbered_more (take i L) X e x c.loop-i.invariant.1 (c.in_ok-number.number, c.in_ok-numbered.ensures.numbered))),
+      subst (λ Y. AreEachNumbered (take (i + 1) L) Y) (sym c.in_ok-push.ensures.ok) (subst (λ K. AreEachNumbered K (X ++ x ∷ [])) (sym (take_next L i e c.at-event.ensures)) (numbered_more (take i L) X e x c.loop-i.invariant.1 (c.in_ok-number.number, c.in_ok-numbered.ensures.numbered))),
       λ base A h.
           let was = c.loop-i.invariant.2 base A h in
           let got = c.in_ok-number.ensures.counts base _ was.1 in
           let it = turn_step base A L X i c.in_ok-number.number e x c.number_of.new.counted c.at-event.ensures was.0 got.0 got.1 c.in_ok-numbered.ensures.numbered in
-          subst (λ Y. HaveNumbers (number base (taken A (take (i + 1) L))) (take (i + 1) L) Y × IsCount base (taken A (take (i + 1) L)) c.number_of.new.counted) (sym c.in_ok-push.ensures.ok) it,
+          subst (λ Y. HaveNumbers (number base (taken A (take (i + 1) L))) (take (i + 1) L) Y × IsCountOf base (taken A (take (i + 1) L)) c.number_of.new.counted) (sym c.in_ok-push.ensures.ok) it,
     )

@@ -2,12 +2,12 @@ use Rattle.std.proofs.Common.{ℕ, List, take}
 use Rattle.std.specs.List.{AllByRecursion}
 use Rattle.attributes.specs.Event.{EventValue}
 use Rattle.attributes.specs.Fault.{IsEvent}
-use Rattle.numbers.specs.Counts.{IsCount}
-use Rattle.numbers.specs.Numbered.{AreNumbered, HaveNumbers}
+use Rattle.numbers.specs.Counts.{IsCountOf}
+use Rattle.numbers.specs.Numbered.{AreEachNumbered, HaveNumbers}
 use Rattle.numbers.specs.Numberer.{number, taken}
 use Rattle.numbers.proofs.turn.number_all.Given as goal
 
 abbrev pub invariant-loop-i : goal.invariant-loop-i
 invariant-loop-i l =
-    AllByRecursion IsEvent l.batch × AreNumbered (take l.i l.events) l.batch
-    × ((base : List ℕ → ℕ) (A : List EventValue) → IsCount base A l.fn.counted → HaveNumbers (number base (taken A (take l.i l.events))) (take l.i l.events) l.batch × IsCount base (taken A (take l.i l.events)) l.counted)
+    AllByRecursion IsEvent l.batch × AreEachNumbered (take l.i l.events) l.batch
+    × ((base : List ℕ → ℕ) (A : List EventValue) → IsCountOf base A l.fn.counted → HaveNumbers (number base (taken A (take l.i l.events))) (take l.i l.events) l.batch × IsCountOf base (taken A (take l.i l.events)) l.counted)

@@ -2,7 +2,7 @@ use Rattle.std.proofs.Common.{◌≡◌, ◌∙◌, ap, sym, subst, refl, inr, N
 use Rattle.attributes.specs.Event.{source_of, text}
 use Rattle.attributes.specs.Members.{value_at}
 use Rattle.attributes.specs.Sequence.{max_sequence}
-use Rattle.numbers.specs.Counts.{IsCount, counted, next}
+use Rattle.numbers.specs.Counts.{IsCountOf, counted, next}
 use Rattle.numbers.specs.Numberer.{taken}
 use Rattle.numbers.proofs.CountLemmas.{found_step, new_step, next_is, too_many}
 use Rattle.numbers.proofs.turn.number_of.Goals as goal
@@ -22,5 +22,5 @@ returns-clause-counts c base A h =
     let none : value_at (text e) counts.numbers ≡ None = ap (λ t. value_at t counts.numbers) (sym c.text.ensures.text) ∙ sym c.in_default.ensures in
     let same = c.in_ok-add.ensures ∙ ap (λ t. counted counts t c.source-2.result.now) c.text-2.ensures.text ∙ ap (λ s. counted counts (text e) s) c.source-2.ensures.value in (
       c.in-Some-next_of.ensures ∙ ap (next counts) c.source.ensures.value ∙ next_is base A counts e c.text.ensures.event none h,
-      subst (IsCount base (taken A (e ∷ []))) (sym same) (new_step base A counts e c.text.ensures.event none h),
+      subst (IsCountOf base (taken A (e ∷ []))) (sym same) (new_step base A counts e c.text.ensures.event none h),
     )

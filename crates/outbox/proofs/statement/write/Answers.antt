@@ -7,7 +7,7 @@ use Rattle.sqlite.specs.Held.{state}
 use Rattle.sqlite.proofs.Callers.{survives_begin}
 use Rattle.outbox.specs.Order.{Accepted}
 use Rattle.outbox.specs.steps.Statement.{note_text, append_text}
-use Rattle.outbox.specs.steps.Change.{Adds, MayAdd}
+use Rattle.outbox.specs.steps.Change.{AddsCommand, MayAdd}
 use Rattle.outbox.proofs.NoteLemmas.{note_params}
 use Rattle.outbox.proofs.InsertLemmas.{append_params}
 use Rattle.outbox.proofs.WriteLemmas.{both, ends}
@@ -32,8 +32,8 @@ returns-clause-added g c clean =
     rw (c.transaction-tx.ensures.begun, c.in_ok-note.was, to_z-of_z w64 c.signed.result fits, c.signed.ensures, to_z-of_z w64 c.code.result fit, c.code.ensures) at (c.note.ensures.runs clean1 (rw c.transaction-tx.ensures.begun refl)) in
     let two : ExecutesInside 0 append_text (append_params c.args.number it) mid last (Ok c.in_ok-append.field-0) =
     rw (c.in_ok-append.was, to_z-of_z w64 c.signed-2.result fits2, c.signed-2.ensures, to_z-of_z w64 c.signed-3.result fits3, c.signed-3.ensures, to_z-of_z w64 c.code-2.result fit2, c.code-2.ensures) at (c.append.ensures.runs clean2 one.1.mode) in
-    let adds : Adds c.args.number it start.now last.now = both start mid last c.args.number it _ _ one two in
-    on_ok_weaker c.commit.result (λ shown. subst (λ h. Adds c.args.number it start.now (state g.S.Store h).now) same (subst (λ (d : Database). Adds c.args.number it start.now d) (sym shown.1.now_is) adds)) (c.commit.ensures.ok clean3)
+    let adds : AddsCommand c.args.number it start.now last.now = both start mid last c.args.number it _ _ one two in
+    on_ok_weaker c.commit.result (λ shown. subst (λ h. AddsCommand c.args.number it start.now (state g.S.Store h).now) same (subst (λ (d : Database). AddsCommand c.args.number it start.now d) (sym shown.1.now_is) adds)) (c.commit.ensures.ok clean3)
 
 pub returns-clause-crash : goal.returns-clause-crash
 returns-clause-crash g c =
@@ -47,7 +47,7 @@ returns-clause-crash g c =
     let fits3 : FitsSigned w64 c.signed-3.result = search rules in
     let fit : FitsSigned w64 c.code.result = search rules in
     let fit2 : FitsSigned w64 c.code-2.result = search rules in
-    let adds : HasCleanDisk last → Adds c.args.number it start.now last.now = λ clean2.
+    let adds : HasCleanDisk last → AddsCommand c.args.number it start.now last.now = λ clean2.
     let clean1 : HasCleanDisk mid = omega (arith, c.append.ensures.survives.clean, clean2) in
     let one : ExecutesInside 0 note_text (note_params it) start mid (Ok c.in_ok-note.field-0) =
     rw (c.transaction-tx.ensures.begun, c.in_ok-note.was, to_z-of_z w64 c.signed.result fits, c.signed.ensures, to_z-of_z w64 c.code.result fit, c.code.ensures) at (c.note.ensures.runs clean1 (rw c.transaction-tx.ensures.begun refl)) in

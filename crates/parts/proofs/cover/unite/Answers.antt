@@ -1,7 +1,7 @@
 use Rattle.std.proofs.Common.{◌≡◌, ◌||◌, length, take, sym, ap, ◌∙◌, subst, arith}
 use Rattle.std.proofs.Math.Seq.{take-length}
 use Rattle.coverage.specs.Summary.{holds_at}
-use Rattle.parts.specs.Combined.{IsUnited}
+use Rattle.parts.specs.Combined.{HoldsUnion}
 use Rattle.parts.proofs.CoverLemmas.{any_taken}
 use Rattle.parts.proofs.cover.unite.Goals as goal
 
@@ -22,4 +22,4 @@ pub returns : goal.returns
 returns c =
     let summaries = c.args.summaries.now in
     let e : c.loop-i.i ≡ length summaries = omega (arith, c.loop-i-test.false, c.loop-i.auto.i-end) in
-    record { first = c.loop-i.invariant.0; united = subst (λ l. IsUnited l c.loop-i.all) (ap (λ n. take n summaries) e ∙ take-length summaries) c.loop-i.invariant.1 }
+    record { first = c.loop-i.invariant.0; united = subst (λ l. HoldsUnion l c.loop-i.all) (ap (λ n. take n summaries) e ∙ take-length summaries) c.loop-i.invariant.1 }

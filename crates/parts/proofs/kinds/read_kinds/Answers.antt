@@ -1,7 +1,7 @@
 use Rattle.std.proofs.Common.{◌∙◌, ap, refl, subst, sym, true≢false}
 use Rattle.std.specs.Option.{IfNone, IfSome}
 use Rattle.views.specs.Line.{kind_lines}
-use Rattle.parts.specs.Counts.{AreKinds, TellsNone}
+use Rattle.parts.specs.Counts.{AreKinds, TellsNoRows}
 use Rattle.parts.proofs.KindLemmas.{kinds_lines}
 use Rattle.parts.proofs.PartReadLemmas.{equal_texts, unequal_texts}
 use Rattle.parts.proofs.ReadLemmas.{none_some, some_one}
@@ -29,4 +29,4 @@ returns-clause-some c =
 
 pub returns-clause-none : goal.returns-clause-none
 returns-clause-none c =
-    subst (λ o. IfNone o (TellsNone AreKinds c.args.text.now)) (sym (c.kinds_in.ensures c.in-Some.rows refl)) tt
+    subst (λ o. IfNone o (TellsNoRows AreKinds c.args.text.now)) (sym (c.kinds_in.ensures c.in-Some.rows refl)) tt

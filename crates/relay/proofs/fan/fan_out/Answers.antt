@@ -2,7 +2,7 @@ use Rattle.std.proofs.Common.{◌≡◌, ◌∙◌, List, ap, arith, inr, length
 use Rattle.std.proofs.lemmas.List.{length-map}
 use Rattle.std.proofs.lemmas.Grind.{common_steps}
 use Rattle.sqlite.specs.Held.{state}
-use Rattle.relay.specs.steps.Lane.{end_of}
+use Rattle.relay.specs.steps.Lane.{end_of_lane}
 use Rattle.relay.specs.declared.fan.lane.Lane.{Lane}
 use Rattle.relay.specs.declared.fan.slot.Slot.{Slot}
 use Rattle.relay.specs.declared.fan.slot.Slot.TheVariants.{Ended, Waiting}
@@ -46,7 +46,7 @@ returns g c =
     let lanes = c.lanes_back-lanes.result.items in
     let count = back_again c.lanes_of-lanes.result.items c.lanes_back-lanes.result.items c.args.routes.items c.run_slots-slots.result.items c.lanes_of-lanes.ensures.routes c.lanes_back-lanes.ensures
     (fan_many g.R.Route.accepted g.R.Route.takes g.R.Route.has_failed g.G.Gate.lets g.G.Gate.shuts g.G.Gate.heard c.args.gate.now c.args.service.now.source c.args.service.now.base _ _ _ c.lanes_of-lanes.result.items c.slots_of-slots.result.items c.run_slots-slots.result.items c.slots_of-slots.ensures (c.run_slots-slots.ensures.goes c.lanes_of-lanes.result.items)) in
-    let ends : length c.settle.result.ends.items ≡ length c.args.routes.items = ap length c.settle.ensures.ends ∙ (length-map lanes end_of ∙ count) in
+    let ends : length c.settle.result.ends.items ≡ length c.args.routes.items = ap length c.settle.ensures.ends ∙ (length-map lanes end_of_lane ∙ count) in
     record {
       each = fan_leaves g.R.Route.accepted g.R.Route.takes g.R.Route.has_failed (g.G.Gate.lets gate) (g.G.Gate.shuts gate) (g.G.Gate.heard gate) c.args.service.now.source c.args.service.now.base before.now after olds news c.args.relays.now.items c.settle.new.relays.items c.args.routes.items c.settle.result.routes.items c.settle.result.ends.items
           c.lanes_of-lanes.ensures.fresh c.lanes_of-lanes.ensures.placed
@@ -63,7 +63,7 @@ returns g c =
             ap length c.settle.ensures.relays ∙ (length-map lanes (λ l. l.relay) ∙ (count ∙ sym c.requires.paired)),
             ap length c.settle.ensures.routes ∙ (length-map lanes (λ l. l.route) ∙ count),
           );
-      ends = inr (ap length c.settle.ensures.ends ∙ (length-map lanes end_of ∙ count));
+      ends = inr (ap length c.settle.ensures.ends ∙ (length-map lanes end_of_lane ∙ count));
       not_begun = λ none. absurd (omega (arith, sym ends ∙ ap length none, c.requires.few.0));
     }
 

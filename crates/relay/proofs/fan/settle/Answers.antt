@@ -1,5 +1,5 @@
 use Rattle.std.proofs.Common.{◌≡◌, ◌++◌, ◌∷◌, [], length, map, ap, arith, ◌∙◌, vec_capacity}
-use Rattle.relay.specs.steps.Lane.{end_of}
+use Rattle.relay.specs.steps.Lane.{end_of_lane}
 use Rattle.relay.specs.declared.fan.lane.Lane.{Lane}
 use Rattle.relay.proofs.FanLemmas.{put_more, put_room, put_low, put_all}
 use Rattle.relay.proofs.fan.settle.Goals as goal
@@ -13,7 +13,7 @@ loop-lane-init g c =
     let none-2 : length c.args.ends.items ≡ 0 = ap length c.requires.empty.2 in (
       ap (λ l. l ++ map (λ (x : Lane g.row.R.Denot). x.relay) c.into_iter-lane-iterator.result.rest.items) c.requires.empty.0 ∙ ap (map (λ (x : Lane g.row.R.Denot). x.relay)) all,
       ap (λ l. l ++ map (λ (x : Lane g.row.R.Denot). x.route) c.into_iter-lane-iterator.result.rest.items) c.requires.empty.1 ∙ ap (map (λ (x : Lane g.row.R.Denot). x.route)) all,
-      ap (λ l. l ++ map end_of c.into_iter-lane-iterator.result.rest.items) c.requires.empty.2 ∙ ap (map end_of) all,
+      ap (λ l. l ++ map end_of_lane c.into_iter-lane-iterator.result.rest.items) c.requires.empty.2 ∙ ap (map end_of_lane) all,
       omega (arith, many, none-0, c.requires.room.0),
       omega (arith, many, none-1, c.requires.room.1),
       omega (arith, many, none-2, c.requires.room.2),
@@ -33,10 +33,10 @@ loop-lane-preserved g c =
     let first = c.in-Some.ensures.steps.0 in
     let rest = c.loop-lane.lane-iterator.rest.items in
     let left = c.next.new.self.rest.items in
-    let ended : c.put.new.list.items ≡ c.loop-lane.ends.items ++ end_of c.in-Some.lane ∷ [] = c.put.ensures.items ∙ ap (λ e. c.loop-lane.ends.items ++ e ∷ []) c.end_at.ensures in (
+    let ended : c.put.new.list.items ≡ c.loop-lane.ends.items ++ end_of_lane c.in-Some.lane ∷ [] = c.put.ensures.items ∙ ap (λ e. c.loop-lane.ends.items ++ e ∷ []) c.end_at.ensures in (
       put_more (λ (x : Lane g.row.R.Denot). x.relay) c.loop-lane.relays.items c.put-in-loop-lane.new.list.items c.in-Some.lane rest left _ c.loop-lane.invariant.0 first c.put-in-loop-lane.ensures.items,
       put_more (λ (x : Lane g.row.R.Denot). x.route) c.loop-lane.routes.items c.put-in-loop-lane-2.new.list.items c.in-Some.lane rest left _ c.loop-lane.invariant.1 first c.put-in-loop-lane-2.ensures.items,
-      put_more end_of c.loop-lane.ends.items c.put.new.list.items c.in-Some.lane rest left _ c.loop-lane.invariant.2 first ended,
+      put_more end_of_lane c.loop-lane.ends.items c.put.new.list.items c.in-Some.lane rest left _ c.loop-lane.invariant.2 first ended,
       put_room c.loop-lane.relays.items c.put-in-loop-lane.new.list.items _ c.in-Some.lane rest left _ _ c.loop-lane.invariant.3 first c.put-in-loop-lane.ensures.items c.put-in-loop-lane.ensures.room,
       put_room c.loop-lane.routes.items c.put-in-loop-lane-2.new.list.items _ c.in-Some.lane rest left _ _ c.loop-lane.invariant.4 first c.put-in-loop-lane-2.ensures.items c.put-in-loop-lane-2.ensures.room,
       put_room c.loop-lane.ends.items c.put.new.list.items _ c.in-Some.lane rest left _ _ c.loop-lane.invariant.5 first c.put.ensures.items c.put.ensures.room,
@@ -55,4 +55,4 @@ returns-clause-routes g c =
 pub returns-clause-ends : goal.returns-clause-ends
 returns-clause-ends g c =
     let none : length c.loop-lane.lane-iterator.rest.items ≡ 0 = omega (arith, c.loop-lane.lane-iterator.rest.ok.0, c.in-None.ensures.steps.0) in
-    put_all end_of c.loop-lane.ends.items c.loop-lane.lane-iterator.rest.items _ c.loop-lane.invariant.2 none
+    put_all end_of_lane c.loop-lane.ends.items c.loop-lane.lane-iterator.rest.items _ c.loop-lane.invariant.2 none

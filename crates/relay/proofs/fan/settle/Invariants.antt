@@ -1,5 +1,5 @@
 use Rattle.std.proofs.Common.{◌≡◌, ◌+◌, ◌≤◌, ◌++◌, length, map, vec_capacity}
-use Rattle.relay.specs.steps.Lane.{end_of}
+use Rattle.relay.specs.steps.Lane.{end_of_lane}
 use Rattle.relay.proofs.fan.settle.Given as goal
 
 abbrev pub invariant-loop-lane : goal.invariant-loop-lane
@@ -7,7 +7,7 @@ invariant-loop-lane g l =
     let rest = l.lane-iterator.rest.items in
     (l.relays.items ++ map (λ x. x.relay) rest ≡ map (λ x. x.relay) l.fn.lanes.items)
     × (l.routes.items ++ map (λ x. x.route) rest ≡ map (λ x. x.route) l.fn.lanes.items)
-    × (l.ends.items ++ map end_of rest ≡ map end_of l.fn.lanes.items)
+    × (l.ends.items ++ map end_of_lane rest ≡ map end_of_lane l.fn.lanes.items)
     × (length l.relays.items + length rest ≤ vec_capacity l.relays)
     × (length l.routes.items + length rest ≤ vec_capacity l.routes)
     × (length l.ends.items + length rest ≤ vec_capacity l.ends)

@@ -1,8 +1,8 @@
 use Rattle.std.proofs.Common.{sym, subst, Option}
 use Rattle.std.proofs.lemmas.Result.{IfOk-weaker}
 use Rattle.sqlite.specs.Held.{state}
-use Rattle.inbox_table.specs.Calls.{Kept}
-use Rattle.site_lock.specs.Pass.{Meets, Shown, leaves}
+use Rattle.inbox_table.specs.Calls.{KeptTable}
+use Rattle.site_lock.specs.Pass.{Meets, ShownPass, leaves}
 use Rattle.keeper.specs.Keep.{KeepsUp}
 use Rattle.keeper.specs.declared.fault.KeepFault.{KeepFault}
 use Rattle.run_command.specs.Shared.{IsClosed}
@@ -16,14 +16,14 @@ returns-clause-ok g c =
     let flusher = c.serve-served.new.aside.flusher in
     let last = c.end-keeper.result in
     subst (λ (z : Option KeepFault). IsClosed (λ conn. state g.S.Store conn) c.args.keeper c.args.site c.args.jobs.feeds c.args.jobs.peers last.keeper c.close-site.result c.serve-served.result z) (sym c.end-keeper.ensures.fault)
-    (subst (λ (z : Kept _). IsClosed (λ conn. state g.S.Store conn) c.args.keeper c.args.site c.args.jobs.feeds c.args.jobs.peers z c.close-site.result c.serve-served.result flusher.fault) (sym keeper)
+    (subst (λ (z : KeptTable _). IsClosed (λ conn. state g.S.Store conn) c.args.keeper c.args.site c.args.jobs.feeds c.args.jobs.peers z c.close-site.result c.serve-served.result flusher.fault) (sym keeper)
     (closed _ _ _ (λ conn. state g.S.Store conn) c.first_arrivals_stay.ensures c.sets_are_members.ensures.is_found c.args.keeper c.args.site c.close-site.result
     c.args.jobs.feeds c.args.jobs.peers c.args.jobs.asks c.in-Ok.begun.shared c.in-Ok.begun.pass c.split.new.pass c.serve-served.new.pass c.meet.new.me c.in-Ok-split.own
     c.of-flusher.result flusher c.serve-served.result c.in-Ok.ensures.begun c.in-Ok-split.ensures.old c.in-Ok-split.ensures.new c.of-flusher.ensures.keeper c.of-flusher.ensures.pass
     c.serve-served.ensures.aside c.serve-served.ensures.same.0 c.serve-served.ensures.served
-    (subst (λ (p : Shown). KeepsUp (state g.S.Store flusher.keeper.conn) flusher.keeper.rows (leaves p)) own
-    (subst (λ (z : Kept _). KeepsUp (state g.S.Store z.conn) z.rows (leaves last.pass)) keeper c.end-keeper.ensures.first))
-    (subst (λ (p : Shown). Meets c.serve-served.new.pass p c.meet.new.me) own c.in-Ok-meet.ensures.met)
+    (subst (λ (p : ShownPass). KeepsUp (state g.S.Store flusher.keeper.conn) flusher.keeper.rows (leaves p)) own
+    (subst (λ (z : KeptTable _). KeepsUp (state g.S.Store z.conn) z.rows (leaves last.pass)) keeper c.end-keeper.ensures.first))
+    (subst (λ (p : ShownPass). Meets c.serve-served.new.pass p c.meet.new.me) own c.in-Ok-meet.ensures.met)
     c.close-site.ensures))
 
 pub returns-clause-gated : goal.returns-clause-gated

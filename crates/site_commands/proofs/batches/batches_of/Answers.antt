@@ -1,5 +1,5 @@
 use Rattle.std.proofs.Common.{rules, ◌≡◌, ◌+◌, ◌++◌, ◌∷◌, [], List, ℕ, length, refl, subst, sym, append-nil}
-use Rattle.site_commands.specs.Jobs.{AreBatches, IsBatchOf, IsFeedFault}
+use Rattle.site_commands.specs.Jobs.{AreBatches, IsBatchOf, IsLineFeedFault}
 use Rattle.site_commands.specs.Pieces.{lines_from, lines_of}
 use Rattle.site_commands.proofs.FeedLemmas.{batches_next, file_fault, file_next, none_left}
 use Rattle.site_commands.proofs.batches.batches_of.Goals as goal
@@ -9,7 +9,7 @@ returns-in-Err-clause-err c =
     let file = c.loop-bytes.file in
     let left : c.loop-bytes.bytes-iterator.rest.items ≡ c.in-Some.bytes ∷ c.next.new.self.rest.items = search rules in
     file_fault c.args.first file (file + 1) c.in-Some.bytes c.loop-bytes.bytes-iterator.rest.items c.next.new.self.rest.items c.args.contents.items left refl c.in-Err.fault
-    (subst (λ (b : List ℕ). IsFeedFault (lines_from file 0 (lines_of b)) c.in-Err.fault) c.as_bytes.ensures.value c.in-Err.ensures.err)
+    (subst (λ (b : List ℕ). IsLineFeedFault (lines_from file 0 (lines_of b)) c.in-Err.fault) c.as_bytes.ensures.value c.in-Err.ensures.err)
     c.loop-bytes.invariant.first
 
 pub loop-bytes-preserved : goal.loop-bytes-preserved

@@ -1,5 +1,5 @@
 use Rattle.std.proofs.Common.{◌++◌, ◌+◌, ◌≤◌, ℕ, List, length}
-use Rattle.site_commands.specs.Jobs.{AreBatches, IsFirstUnread}
+use Rattle.site_commands.specs.Jobs.{AreBatches, IsFirstUnreadLine}
 use Rattle.site_commands.specs.Pieces.{lines_behind}
 use Rattle.site_commands.specs.declared.pieces.RefusedLine.{RefusedLine}
 use Rattle.site_commands.proofs.batches.batches_of.Given as goal
@@ -7,6 +7,6 @@ use Rattle.site_commands.proofs.batches.batches_of.Given as goal
 abbrev pub invariant-loop-bytes : goal.invariant-loop-bytes
 invariant-loop-bytes l = record {
   are : (rest : List (List ℕ)) → AreBatches l.file l.bytes-iterator.rest.items rest → AreBatches l.fn.first l.fn.contents.items (l.batches ++ rest);
-  first : (r : RefusedLine) → IsFirstUnread (lines_behind l.file l.bytes-iterator.rest.items) r → IsFirstUnread (lines_behind l.fn.first l.fn.contents.items) r;
+  first : (r : RefusedLine) → IsFirstUnreadLine (lines_behind l.file l.bytes-iterator.rest.items) r → IsFirstUnreadLine (lines_behind l.fn.first l.fn.contents.items) r;
   bound : l.file + length l.bytes-iterator.rest.items ≤ l.fn.first + length l.fn.contents.items;
 }

@@ -1,6 +1,6 @@
 use Rattle.std.proofs.Common.{rules, ◌≡◌, ◌∙◌, false, true, subst}
 use Rattle.std.specs.Option.{is_some}
-use Rattle.file_reports.specs.Shelves.{AreContents}
+use Rattle.event_files.specs.Shelves.{AreContents}
 use Rattle.site_commands.specs.Names.{files_of_run}
 use Rattle.site_commands.proofs.WorkerLemmas.{few_contents, refuses_run, some_contents}
 use Rattle.site_commands.proofs.workers.run.Goals as goal

@@ -3,7 +3,7 @@ use Rattle.std.specs.Prelude.{slice_get, vec_len}
 use Rattle.std.proofs.lemmas.Result.{err_from_is_err_and}
 use Rattle.attributes.specs.Event.{source_of}
 use Rattle.attributes.specs.Fault.{IsEvent}
-use Rattle.block_digests.specs.Kept.{AreAlike}
+use Rattle.block_digests.specs.Kept.{KeepsDigests}
 use Rattle.block_digests.specs.steps.Index.{kept_in}
 use Rattle.block_digests.proofs.KeptLemmas.{err_along, kept_alike, kept_noted, ok_along}
 use Rattle.block_digests.proofs.NoteLemmas.{alike_at, got, noted_at, ok_both}
@@ -18,13 +18,13 @@ returns-clause-event c = subst IsEvent c.event-2.ensures c.text-event.ensures.ev
 pub returns-in_err-i-clause-alike : goal.returns-in_err-i-clause-alike
 returns-in_err-i-clause-alike c =
     let mid = kept_in c.find_or_make.new.index c.find_or_make.new.blocks.items in
-    let alike : AreAlike c.args.self.now mid = subst (λ k. AreAlike k mid) c.self.view_is c.find_or_make.ensures.alike in
+    let alike : KeepsDigests c.args.self.now mid = subst (λ k. KeepsDigests k mid) c.self.view_is c.find_or_make.ensures.alike in
     rw (err_from_is_err_and c.from_residual.result c.from_residual.ensures.1).1 alike
 
 pub returns-in_err-i-clause-same : goal.returns-in_err-i-clause-same
 returns-in_err-i-clause-same c = λ A kept.
     let mid = kept_in c.find_or_make.new.index c.find_or_make.new.blocks.items in
-    let alike : AreAlike c.args.self.now mid = subst (λ k. AreAlike k mid) c.self.view_is c.find_or_make.ensures.alike in
+    let alike : KeepsDigests c.args.self.now mid = subst (λ k. KeepsDigests k mid) c.self.view_is c.find_or_make.ensures.alike in
     rw (err_from_is_err_and c.from_residual.result c.from_residual.ensures.1).1 (kept_alike A c.args.self.now mid kept alike)
 
 pub index_mut-requires : goal.index_mut-requires
@@ -34,7 +34,7 @@ pub returns-clause-noted : goal.returns-clause-noted
 returns-clause-noted c =
     let index = c.find_or_make.new.index in
     let blocks = c.find_or_make.new.blocks.items in
-    let alike : AreAlike c.args.self.now (kept_in index blocks) = subst (λ k. AreAlike k (kept_in index blocks)) c.self.view_is c.find_or_make.ensures.alike in
+    let alike : KeepsDigests c.args.self.now (kept_in index blocks) = subst (λ k. KeepsDigests k (kept_in index blocks)) c.self.view_is c.find_or_make.ensures.alike in
     let range : c.in_ok-i.i < length blocks = search (rules, c.find_or_make.ensures.index.in_range c.source-source.result.now c.block_of-k.result c.in_ok-i.i c.in_ok-i.ensures.there) in
     let had : slice_get blocks c.in_ok-i.i ≡ Some c.index_mut.result.now = got blocks c.in_ok-i.i c.index_mut.result.now range c.index_mut.ensures.value in
     ok_both c.add.result _ _ _
@@ -52,7 +52,7 @@ pub returns-clause-alike : goal.returns-clause-alike
 returns-clause-alike c =
     let index = c.find_or_make.new.index in
     let blocks = c.find_or_make.new.blocks.items in
-    let alike : AreAlike c.args.self.now (kept_in index blocks) = subst (λ k. AreAlike k (kept_in index blocks)) c.self.view_is c.find_or_make.ensures.alike in
+    let alike : KeepsDigests c.args.self.now (kept_in index blocks) = subst (λ k. KeepsDigests k (kept_in index blocks)) c.self.view_is c.find_or_make.ensures.alike in
     let range : c.in_ok-i.i < length blocks = search (rules, c.find_or_make.ensures.index.in_range c.source-source.result.now c.block_of-k.result c.in_ok-i.i c.in_ok-i.ensures.there) in
     let had : slice_get blocks c.in_ok-i.i ≡ Some c.index_mut.result.now = got blocks c.in_ok-i.i c.index_mut.result.now range c.index_mut.ensures.value in
     err_along c.add.result _ _ (alike_at index blocks c.in_ok-i.i c.index_mut.result.now c.add.new.self c.args.self.now had alike) c.add.ensures.err

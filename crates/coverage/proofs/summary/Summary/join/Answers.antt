@@ -1,6 +1,6 @@
 use Rattle.std.proofs.Common.{ap, ap₂, inl, inr, is_some, ◌∙◌}
 use Rattle.coverage.specs.BlockDigests.{HasDigests}
-use Rattle.coverage.specs.Digests.{digest_at}
+use Rattle.coverage.specs.Digests.{block_digest_at}
 use Rattle.coverage.specs.Join.{chosen}
 use Rattle.coverage.specs.Summary.{Sources, entries_of, numbers_of}
 use Rattle.coverage.proofs.JoinLemmas.{AreJoined, both_joined, joined_has, joined_numbers, joined_told, other_missing, own_missing, wanted}
@@ -51,4 +51,4 @@ returns-clause-digests c = λ one other s k.
     c.self.inside.digests c.other.inside.digests c.match-self.digests (are_joined c) c.self.invariant
     (ap (λ (a : Sources). is_some a.digests) c.self.view_is ∙ has_digests c.args.self.now one)
     (ap (λ (a : Sources). is_some a.digests) c.other.view_is ∙ has_digests c.args.other.now other) s k
-    ∙ ap₂ (λ a b. chosen (numbers_of a s) (digest_at a s k) (digest_at b s k)) c.self.view_is c.other.view_is
+    ∙ ap₂ (λ a b. chosen (numbers_of a s) (block_digest_at a s k) (block_digest_at b s k)) c.self.view_is c.other.view_is

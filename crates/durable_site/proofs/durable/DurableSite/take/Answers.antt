@@ -3,8 +3,8 @@ use Rattle.sqlite.specs.Held.{state}
 use Rattle.attributes.specs.Event.{EventValue}
 use Rattle.inbox.specs.KeyOrder.{key_cmp}
 use Rattle.inbox.specs.Ordered.{append_new}
-use Rattle.inbox_table.specs.Calls.{Kept}
-use Rattle.durable_site.specs.Durable.{TakeEffect, events_of}
+use Rattle.inbox_table.specs.Calls.{KeptTable}
+use Rattle.durable_site.specs.Durable.{TakeEffectOfFile, events_of}
 use Rattle.durable_site.proofs.TakeLemmas.{kept_takes}
 use Rattle.durable_site.proofs.durable.DurableSite.take.Goals as goal
 
@@ -21,5 +21,5 @@ returns-clause-effect g c clean =
     ∙ ap (λ (L : List EventValue). append_new key_cmp c.catch_up.new.self.site L) (sym c.of.ensures) ∙ sym c.count_to-counted.ensures.all in
     let did = kept_takes c.args.batch old (state g.S.Store c.catch_up.new.self.table.conn) is _ c.in_ok-fresh.fresh
     c.in_ok-fresh.ensures.crash (c.in_ok-fresh.ensures.effect clean) clean in
-    subst (λ (t : Kept g.row.S.Denot). TakeEffect c.args.batch old new (state g.S.Store t.conn) is (Ok c.in_ok-fresh.fresh)) c.catch_up.ensures.table
-    (subst (λ (E : List EventValue). TakeEffect c.args.batch old E (state g.S.Store c.catch_up.new.self.table.conn) is (Ok c.in_ok-fresh.fresh)) all did)
+    subst (λ (t : KeptTable g.row.S.Denot). TakeEffectOfFile c.args.batch old new (state g.S.Store t.conn) is (Ok c.in_ok-fresh.fresh)) c.catch_up.ensures.table
+    (subst (λ (E : List EventValue). TakeEffectOfFile c.args.batch old E (state g.S.Store c.catch_up.new.self.table.conn) is (Ok c.in_ok-fresh.fresh)) all did)

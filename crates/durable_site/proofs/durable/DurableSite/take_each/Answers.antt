@@ -3,7 +3,7 @@ use Rattle.sqlite.specs.Held.{state}
 use Rattle.attributes.specs.Event.{EventValue}
 use Rattle.inbox.specs.KeyOrder.{key_cmp}
 use Rattle.inbox.specs.Ordered.{append_new}
-use Rattle.inbox_table.specs.Calls.{Kept, joined}
+use Rattle.inbox_table.specs.Calls.{KeptTable, joined}
 use Rattle.durable_site.specs.Durable.{TakeEachEffect, events_of}
 use Rattle.durable_site.proofs.TakeLemmas.{kept_each_takes}
 use Rattle.durable_site.proofs.durable.DurableSite.take_each.Goals as goal
@@ -21,5 +21,5 @@ returns-clause-effect g c clean =
     ∙ ap (λ (L : List EventValue). append_new key_cmp c.catch_up.new.self.site L) (sym c.of_each.ensures) ∙ sym c.count_to-counted.ensures.all in
     let did = kept_each_takes c.args.lists old (state g.S.Store c.catch_up.new.self.table.conn) is _ c.in_ok-each.each
     c.in_ok-each.ensures.crash (c.in_ok-each.ensures.effect clean) clean in
-    subst (λ (t : Kept g.row.S.Denot). TakeEachEffect c.args.lists old new (state g.S.Store t.conn) is (Ok c.in_ok-each.each)) c.catch_up.ensures.table
+    subst (λ (t : KeptTable g.row.S.Denot). TakeEachEffect c.args.lists old new (state g.S.Store t.conn) is (Ok c.in_ok-each.each)) c.catch_up.ensures.table
     (subst (λ (E : List EventValue). TakeEachEffect c.args.lists old E (state g.S.Store c.catch_up.new.self.table.conn) is (Ok c.in_ok-each.each)) all did)

@@ -1,7 +1,7 @@
 use Rattle.std.proofs.Common.{List, ℕ, arith, refl, ap, subst, ◌∙◌}
 use Rattle.attributes.specs.Event.{kind_of}
 use Rattle.views.specs.Tally.{kind_and_day}
-use Rattle.kept_views.specs.Tables.{KindDay, is_day}
+use Rattle.kept_views.specs.Tables.{KindDay, is_kind_day}
 use Rattle.kept_views.specs.steps.Moves.{CountsChange, is_own, one_less}
 use Rattle.kept_views.specs.steps.Seen.{days_in}
 use Rattle.kept_views.proofs.TallyLemmas.{count_changes, count_seen}
@@ -18,7 +18,7 @@ returns-clause-goes c =
     record {
       kinds = count_changes one_less c.self.inside.kinds.entries c.self.inside.kinds.entries c.lower.new.tally.entries c.args.self.now.kinds _ (kind_of c.args.event.now) (ap (λ v. v.kinds) c.self.view_is) refl text c.lower.ensures.counts;
       days =
-          subst (λ (l : List (KindDay × ℕ)). CountsChange is_day (is_own (kind_and_day c.args.event.now)) one_less l (days_in c.lower_day.new.tally.entries)) (ap (λ v. v.days) c.self.view_is)
-          (subst (λ o. CountsChange is_day (is_own o) one_less (days_in c.self.inside.days.entries) (days_in c.lower_day.new.tally.entries)) c.requires.own c.lower_day.ensures.counts);
+          subst (λ (l : List (KindDay × ℕ)). CountsChange is_kind_day (is_own (kind_and_day c.args.event.now)) one_less l (days_in c.lower_day.new.tally.entries)) (ap (λ v. v.days) c.self.view_is)
+          (subst (λ o. CountsChange is_kind_day (is_own o) one_less (days_in c.self.inside.days.entries) (days_in c.lower_day.new.tally.entries)) c.requires.own c.lower_day.ensures.counts);
       entities = rw (← c.self.view_is) c.clear.ensures.rows;
     }

@@ -1,6 +1,6 @@
 use Rattle.std.proofs.Common.{◌≡◌, ◌≢◌, [], Some, refl, sym, subst, rules}
 use Rattle.event_json.specs.declared.fault.ReadFault.TheVariants.{InputTooLarge}
-use Rattle.file_reports.specs.declared.refusal.ReportFault.TheVariants.{Read}
+use Rattle.event_files.specs.declared.refusal.ReportFault.TheVariants.{Read}
 use Rattle.line_intake.specs.Judged.{IsJudged}
 use Rattle.line_intake.specs.Lines.{IsNext}
 use Rattle.line_intake.proofs.GatherLemmas.{gathered_empty, gathered_end, gathered_line, long_judged, on_three}

@@ -1,7 +1,7 @@
 use Rattle.std.proofs.Common.{◌≡◌, ◌≢◌, [], Some, refl, sym, subst, rules}
 use Rattle.event_json.specs.declared.fault.ReadFault.TheVariants.{InputTooLarge}
 use Rattle.number_lines.specs.declared.refusal.LineRefusal.TheVariants.{Read}
-use Rattle.number_lines.specs.Judged.{IsJudged}
+use Rattle.number_lines.specs.Judged.{IsJudgedToNumber}
 use Rattle.line_intake.specs.Lines.{IsNext}
 use Rattle.line_intake.proofs.GatherLemmas.{on_three}
 use Rattle.number_lines.proofs.GatherLemmas.{gathered_empty, gathered_end, gathered_line, long_judged}
@@ -24,8 +24,8 @@ returns-in-TooLong-clause-taken c =
     (λ tells lists lines before old mid new g next.
     let at = subst (IsNext mid new) c.in-TooLong.is next in
     let long = long_judged c.args.aside.now at.0 at.2 in
-    let judged : IsJudged c.args.aside.now at.0 c.refuse.result.fault c.refuse.result.events =
-    subst (λ f. IsJudged c.args.aside.now at.0 f c.refuse.result.events) (sym c.refuse.ensures.fault) (subst (λ L. IsJudged c.args.aside.now at.0 (Some (Read InputTooLarge)) L) (sym c.refuse.ensures.events) long.1) in
+    let judged : IsJudgedToNumber c.args.aside.now at.0 c.refuse.result.fault c.refuse.result.events =
+    subst (λ f. IsJudgedToNumber c.args.aside.now at.0 f c.refuse.result.events) (sym c.refuse.ensures.fault) (subst (λ L. IsJudgedToNumber c.args.aside.now at.0 (Some (Read InputTooLarge)) L) (sym c.refuse.ensures.events) long.1) in
     gathered_line c.args.aside.now before c.args.self.now.lines c.add.new.self.lines old mid new c.args.self.now.tells c.add.new.self.tells c.args.self.now.lists c.add.new.self.lists at.0 c.refuse.result.fault c.refuse.result.events
     lines long.0 judged tells lists g at.1)
     c.add.ensures.tells c.add.ensures.lists c.add.ensures.lines

@@ -6,7 +6,7 @@ use Rattle.outbox.specs.Row.{row_event}
 use Rattle.sqlite.specs.Effect.{Database}
 use Rattle.outbox.specs.Call.{CommandCall, CommandEffect, IsSettled}
 use Rattle.outbox.specs.Shown.{Shown}
-use Rattle.outbox.specs.steps.Change.{Adds, MayAdd}
+use Rattle.outbox.specs.steps.Change.{AddsCommand, MayAdd}
 use Rattle.outbox.proofs.ServiceLemmas.{commanded, counted, effect_done, effect_failed, effect_left, of_store_not_foreign, stands_after, stands_back, stands_same, store_or_memory}
 use Rattle.outbox.proofs.CountLemmas.{counts_after, keeps_back, keeps_same}
 use Rattle.outbox.proofs.service.Service.accept.Goals as goal
@@ -41,7 +41,7 @@ invariant_of-self-2 g c =
             let clean_mid : HasCleanDisk mid = omega (arith, c.write.ensures.crash.clean, clean) in
             let stays = c.in-Ok-write.ensures.stays clean in
             let made : Accepted = record { status = c.args.status; order = c.args.order; at = c.args.at.now } in
-            let adds : Adds (c.self.inside.last + 1) made mid.now new.now = rw c.as_str-3.ensures at (c.in-Ok-write.ensures.added clean) in
+            let adds : AddsCommand (c.self.inside.last + 1) made mid.now new.now = rw c.as_str-3.ensures at (c.in-Ok-write.ensures.added clean) in
             stands_after old mid new c.self.inside.source c.self.inside.base c.self.inside.last (c.self.inside.last + 1) made (commanded c.args.status c.args.order c.args.at.now c.day-day.result c.requires.order (subst IsUtf8 c.as_str-3.ensures c.as_str-3.utf8) c.requires.short c.day-day.ensures) refl c.decide.ensures.same clean_mid stays.1 it.stands (c.in-Ok.ensures.accepted clean_mid) adds;
       },
       record {
@@ -50,7 +50,7 @@ invariant_of-self-2 g c =
             let clean_mid : HasCleanDisk mid = omega (arith, c.write.ensures.crash.clean, clean) in
             let stays = c.in-Ok-write.ensures.stays clean in
             let made : Accepted = record { status = c.args.status; order = c.args.order; at = c.args.at.now } in
-            let adds : Adds (c.self.inside.last + 1) made mid.now new.now = rw c.as_str-3.ensures at (c.in-Ok-write.ensures.added clean) in
+            let adds : AddsCommand (c.self.inside.last + 1) made mid.now new.now = rw c.as_str-3.ensures at (c.in-Ok-write.ensures.added clean) in
             counts_after old mid new c.self.inside.source c.self.inside.base c.self.inside.last (c.self.inside.last + 1) c.self.inside.orders c.placed.result made (commanded c.args.status c.args.order c.args.at.now c.day-day.result c.requires.order (subst IsUtf8 c.as_str-3.ensures c.as_str-3.utf8) c.requires.short c.day-day.ensures) refl c.decide.ensures.same clean_mid stays.1 it.stands (c.in-Ok.ensures.accepted clean_mid) adds (c.placed.ensures.placed c.args.order) c.self.invariant.1;
       },
     )
@@ -132,7 +132,7 @@ returns-clause-effect g c clean =
     let was : Shown _ = record { conn = c.self.inside.conn; source = c.self.inside.source; base = c.self.inside.base; last = c.self.inside.last } in
     let clean_mid : HasCleanDisk mid = omega (arith, c.write.ensures.crash.clean, clean) in
     let survives : Survives mid new (MayAdd (c.self.inside.last + 1) it mid) = rw c.as_str-3.ensures at c.write.ensures.crash in
-    let adds : Adds (c.self.inside.last + 1) it mid.now new.now = rw c.as_str-3.ensures at (c.in-Ok-write.ensures.added clean) in
+    let adds : AddsCommand (c.self.inside.last + 1) it mid.now new.now = rw c.as_str-3.ensures at (c.in-Ok-write.ensures.added clean) in
     let event : c.in-Ok-event.event ≡ row_event c.self.inside.source (c.self.inside.last + 1) it = rw (c.as_str.ensures, c.as_str-2.ensures) at c.in-Ok-event.ensures.event in
     let settled : IsSettled new = λ still db leaves. g.met.S.Store.settled c.write.new.conn.store db still leaves ∙ ap (λ (d : Database). d.trees) (c.in-Ok-write.ensures.committed clean) in
     subst (λ (v : Shown _). CommandEffect it v (state g.S.Store v.conn) new (Ok c.in-Ok-event.event)) c.self.view_is

@@ -1,7 +1,7 @@
 use Rattle.std.proofs.Common.{◌≡◌, ◌⊎◌, ◌≤◌, IsSome, List, length, arith, rules, subst}
 use Rattle.sqlite.specs.State.{HasCleanDisk}
 use Rattle.sqlite.specs.Held.{state}
-use Rattle.outbox.specs.Call.{IsSame}
+use Rattle.outbox.specs.Call.{IsServiceReading}
 use Rattle.relay.specs.steps.Lane.{Honestly, IsWindow}
 use Rattle.relay.proofs.ReadLemmas.{max_top, read_window_of, same_none}
 use Rattle.relay.proofs.SlotLemmas.{comes_later, comes_stopped, of_starts, rests_done, rests_stopped, some_fault, that_fault}

@@ -1,8 +1,8 @@
 use Rattle.std.proofs.Common.{◌≡◌, List, length}
 use Rattle.sqlite.specs.Effect.{Database}
 use Rattle.sqlite.specs.Held.{state}
-use Rattle.outbox.specs.Call.{IsSame}
-use Rattle.relay.specs.steps.Lane.{Each, IsStill}
+use Rattle.outbox.specs.Call.{IsServiceReading}
+use Rattle.relay.specs.steps.Lane.{AllAtPlaces, IsStill}
 use Rattle.relay.specs.steps.Slot.{IsOf}
 use Rattle.relay.specs.declared.fan.lane.Lane.{Lane}
 use Rattle.relay.proofs.fan.desk.run.Given as goal
@@ -10,8 +10,8 @@ use Rattle.relay.proofs.fan.desk.run.Given as goal
 abbrev pub invariant-loop : goal.invariant-loop
 invariant-loop g l =
     ((l.service.source ≡ l.fn.service.source) × (l.service.base ≡ l.fn.service.base) × (l.service.last ≡ l.fn.service.last))
-    × IsSame (state g.S.Store l.fn.service.conn) (state g.S.Store l.service.conn)
+    × IsServiceReading (state g.S.Store l.fn.service.conn) (state g.S.Store l.service.conn)
     × (length l.slots.items ≡ length l.fn.slots.items)
     × ((db : Database) (olds : List (Lane g.row.R.Denot)) → IsStill db (state g.S.Store l.fn.service.conn)
-    → Each (IsOf g.R.Route.accepted g.R.Route.takes g.R.Route.has_failed g.G.Gate.lets g.G.Gate.shuts g.G.Gate.heard l.gate l.fn.service.source l.fn.service.base db (state g.S.Store l.fn.service.conn)) olds l.fn.slots.items
-    → Each (IsOf g.R.Route.accepted g.R.Route.takes g.R.Route.has_failed g.G.Gate.lets g.G.Gate.shuts g.G.Gate.heard l.gate l.fn.service.source l.fn.service.base db (state g.S.Store l.service.conn)) olds l.slots.items)
+    → AllAtPlaces (IsOf g.R.Route.accepted g.R.Route.takes g.R.Route.has_failed g.G.Gate.lets g.G.Gate.shuts g.G.Gate.heard l.gate l.fn.service.source l.fn.service.base db (state g.S.Store l.fn.service.conn)) olds l.fn.slots.items
+    → AllAtPlaces (IsOf g.R.Route.accepted g.R.Route.takes g.R.Route.has_failed g.G.Gate.lets g.G.Gate.shuts g.G.Gate.heard l.gate l.fn.service.source l.fn.service.base db (state g.S.Store l.service.conn)) olds l.slots.items)

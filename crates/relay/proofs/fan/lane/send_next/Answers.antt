@@ -1,6 +1,6 @@
 use Rattle.std.proofs.Common.{◌≡◌, ◌≤◌, ◌+◌, ap, refl, subst, sym, ◌∙◌, arith}
 use Rattle.relay.specs.Fan.{AreSent, rows_between}
-use Rattle.relay.specs.Relay.{Marked}
+use Rattle.relay.specs.Relay.{RelayMark}
 use Rattle.relay.proofs.LaneLemmas.{carries_page, carries_stop, of_in, stops_at}
 use Rattle.relay.proofs.fan.lane.send_next.Goals as goal
 
@@ -13,8 +13,8 @@ returns-in-Ok-send_page-clause-carried g c =
     let lane = c.args.lane in
     let call : c.in-Some.call ≡ lane.calls + 1 = c.in-Some.ensures.1 in
     let from : c.mark.result ≡ lane.relay.mark = c.mark.ensures in
-    let to : c.at.result.mark ≡ c.in-Ok.page.last = ap (λ (m : Marked). m.mark) c.at.ensures in
-    let site : c.at.result.site ≡ lane.relay.site = ap (λ (m : Marked). m.site) c.at.ensures ∙ c.site.ensures in
+    let to : c.at.result.mark ≡ c.in-Ok.page.last = ap (λ (m : RelayMark). m.mark) c.at.ensures in
+    let site : c.at.result.site ≡ lane.relay.site = ap (λ (m : RelayMark). m.site) c.at.ensures ∙ c.site.ensures in
     let there : AreSent start rows lane.relay.mark c.at.result.mark page = subst (λ n. AreSent start rows lane.relay.mark n page) (sym to) (subst (λ n. AreSent start rows n c.in-Ok.page.last page) from c.in-Ok.ensures.there) in
     let exact : page ≡ rows_between start rows lane.relay.mark c.at.result.mark = c.in-Ok.ensures.exact ∙ ap (λ n. rows_between start rows n c.in-Ok.page.last) from ∙ ap (rows_between start rows lane.relay.mark) (sym to) in
     let let_in : g.G.Gate.lets gate lane.place (lane.calls + 1) = subst (λ n. g.G.Gate.lets gate lane.place n) call c.in-Ok-send_page.ensures.gated.0 in

@@ -1,7 +1,7 @@
 use Rattle.std.proofs.Common.{List, ap, ◌∙◌, subst}
 use Rattle.std.specs.Prelude.{IfErr, Some}
 use Rattle.attributes.specs.Event.{EventValue}
-use Rattle.site.specs.Arrival.{LacksAt}
+use Rattle.site.specs.Arrival.{LacksArrivalAt}
 use Rattle.site.specs.Desk.{taken_of, took}
 use Rattle.site.specs.Machine.{call}
 use Rattle.site.specs.declared.call.Command.TheVariants as command
@@ -15,6 +15,6 @@ returns-clause-made g c =
 
 pub returns-clause-short_of_new : goal.returns-clause-short_of_new
 returns-clause-short_of_new g c =
-    subst (λ (A : List EventValue). IfErr c.take_batch-reply.result (λ fault. LacksAt A c.args.batch.now (taken_of fault)))
+    subst (λ (A : List EventValue). IfErr c.take_batch-reply.result (λ fault. LacksArrivalAt A c.args.batch.now (taken_of fault)))
     (c.take_batch-reply.ensures.arrivals ∙ shows_site c.end.new.seat.table_id c.enter-site.new.pass.me c.end.new.seat.me c.enter-site.result.site _ _ c.enter-site.ensures.turn
     (ap (λ l. Some (call (command.Take l) (took c.take_batch-reply.result))) c.of-before.ensures) c.end.ensures.ended) c.take_batch-reply.ensures.short_of_new

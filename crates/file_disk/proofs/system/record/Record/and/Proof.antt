@@ -17,7 +17,7 @@ use denote.Steps.{nothing}
 use denote.Triple.Entry.{alive}
 use denote.Triple.Walked.{says, ends_at, Stays, stay_dropped, Goes-dropped}
 use Rattle.file_disk.proofs.Empty.{empty_made, nothing_in, with_calls}
-use Rattle.file_disk.specs.Note.{event_of}
+use Rattle.file_disk.specs.Note.{event_of_note}
 use Rattle.file_disk.specs.contracts.system.record.Record.{the_row as R}
 use Rattle.file_disk.specs.contracts.system.record.Note.{the_row as N}
 use Rattle.file_disk.specs.contracts.system.record.Record.and as f
@@ -38,6 +38,6 @@ and_spec 𝓤 𝓛 𝓜 𝓡 w =
     enter ! _ _ _ _ _ $ alloc_all ! (λ l. pass_all ! refl ((tt, tt), ((tt, tt), ((tt, (tt, (record { fits = are.1.1.0.0.1.0 }, tt))), tt))) $
     sets ! (agg ! (no_more !)) refl (tt, tt) $
     sets ! (agg ! (and_then ! (get ! refl) (no_more !))) refl (tt, (tt, tt)) $
-    returns ! (look_at ! 0 refl) $ free_all ! refl $ empty_made ! (event_of a.1.0.now a.1.1.0.now ∷ a.0.now.calls) $
-    suffices ! _ (ends_at 𝓛 f.ended stayed c ((κs, qs, bounds, a, vss), g) nothing_in (with_calls (event_of a.1.0.now a.1.1.0.now ∷ a.0.now.calls)) (tt, (tt, (tt, tt))) (tt, (tt, (tt, tt)))) $ says ! refl $
+    returns ! (look_at ! 0 refl) $ free_all ! refl $ empty_made ! (event_of_note a.1.0.now a.1.1.0.now ∷ a.0.now.calls) $
+    suffices ! _ (ends_at 𝓛 f.ended stayed c ((κs, qs, bounds, a, vss), g) nothing_in (with_calls (event_of_note a.1.0.now a.1.1.0.now ∷ a.0.now.calls)) (tt, (tt, (tt, tt))) (tt, (tt, (tt, tt)))) $ says ! refl $
     nothing ! $ nothing ! $ fjoin ! $ nothing ! $ fjoin ! $ nothing ! $ fjoin ! $ move ! (2 ∷ 0 ∷ 1 ∷ []) $ done !))

@@ -1,0 +1,25 @@
+-- What a call leaves of the state of a database.
+use Rattle.std.specs.Prelude.{◌≡◌, IsTrue, OnErr, OnOk, Result}
+use Rattle.sqlite_trees.specs.Tree.{Trees}
+use Rattle.sqlite.specs.State.{State, HasCleanDisk, KeepsCommit}
+
+-- while the disk is honest and the database open, it shows what it showed
+abbrev pub IsAsItWas : State → State → Type 0
+IsAsItWas old new = HasCleanDisk new → IsTrue new.is_open → new.now ≡ old.now
+
+-- after this a crash leaves the last commit alone
+abbrev pub IsSettled : State → Type 0
+IsSettled s = IsTrue s.is_open → (db : Trees) → s.may_leave db → db ≡ s.now.trees
+
+-- refused within a transaction, the last commit stays
+abbrev pub KeepsCommitIfRefused : {A E : Type 0} → State → State → Result A E → Type 0
+KeepsCommitIfRefused old new result = HasCleanDisk new → IsTrue old.in_transaction
+    → OnErr result (KeepsCommit old new)
+
+-- where it was done, what the database shows is committed
+abbrev pub ShowsCommitIfDone : {A E : Type 0} → State → Result A E → Type 0
+ShowsCommitIfDone new result = HasCleanDisk new → OnOk result (new.now ≡ new.committed)
+
+-- only an open database is open behind it
+abbrev pub WasOpen : State → State → Type 0
+WasOpen old new = HasCleanDisk new → IsTrue new.is_open → IsTrue old.is_open

@@ -1,0 +1,3 @@
+pub mod FileLemmas
+mod ListLemmas
+mod ShelfLemmas

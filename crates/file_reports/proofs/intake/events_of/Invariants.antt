@@ -1,6 +1,0 @@
-use Rattle.std.proofs.Common.{take}
-use Rattle.file_reports.specs.Reports.{SpellAll}
-use Rattle.file_reports.proofs.intake.events_of.Given as goal
-
-abbrev pub invariant-loop-file : goal.invariant-loop-file
-invariant-loop-file g l = SpellAll (take l.file l.files) l.events
