@@ -1,4 +1,4 @@
-"""Rows of the drivers, which are played group by group, and each group once more with each of its allocations refused.
+"""Rows of the driver, which are played group by group, and each group once more with each of its allocations refused.
 
 The driver is a program that plays calls of the libraries: crates/rows/stdin has them, a line `> CALL` each, on values that have names,
 and crates/rows/stdout has each with its answer. Groups stand apart by an empty line. One with the call of a theme, and the first, names

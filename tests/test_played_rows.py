@@ -1,4 +1,4 @@
-"""How rows of drivers are played, by a driver in C that asks memory for each call, once before it and once in it: what is told of good
+"""How rows of a driver are played, by one in C that asks memory for each call, once before it and once in it: what is told of good
 rows and of bad ones."""
 import os
 import subprocess

@@ -20,6 +20,6 @@ KeepsCommitIfRefused old new result = HasCleanDisk new → IsTrue old.in_transac
 abbrev pub ShowsCommitIfDone : {A E : Type 0} → State → Result A E → Type 0
 ShowsCommitIfDone new result = HasCleanDisk new → OnOk result (new.now ≡ new.committed)
 
--- only an open database is open behind it
+-- a database that is open behind a call was open before
 abbrev pub WasOpen : State → State → Type 0
 WasOpen old new = HasCleanDisk new → IsTrue new.is_open → IsTrue old.is_open

@@ -54,7 +54,7 @@ pub record Creates (old new : State) : Type 0 where
   -- a crash leaves the table
   pub settled : IsSettled new
 
--- so it was where it is done
+-- where `create` was done, it made the table
 abbrev pub CreatesIfDone : {A E : Type 0} → State → State → Result A E → Type 0
 CreatesIfDone old new result = HasCleanDisk new → OnOk result (Creates old new)
 
@@ -75,7 +75,7 @@ pub record MayUpgrade (old : Database) (trees : Trees) : Type 0 where
   pub is : IsInbox db events
   pub beside : UpgradesTables old db
 
--- and so it leaves it, whatever came of it
+-- what a crash may leave of an upgrade, done or refused
 abbrev pub LeavesUpgrade : State → State → Type 0
 LeavesUpgrade old new = Survives old new (MayUpgrade old.now)
 

@@ -41,6 +41,6 @@ abbrev pub MayOpen : Database → Trees → Type 0
 MayOpen old trees = ((has_inbox old.schema ≡ false) × MayMake old trees)
     ⊎ ((has_inbox old.schema ≡ true) × MayUpgrade old trees)
 
--- and so it leaves it, whatever came of it
+-- what a crash may leave of an opening, done or refused
 abbrev pub LeavesOpening : State → State → Type 0
 LeavesOpening old new = Survives old new (MayOpen old.now)

@@ -18,7 +18,7 @@ pub record Accepted : Type 0 where
 abbrev pub IsOrder : ℕ → Type 0
 IsOrder order = (1 ≤ order) × (order ≤ max_sequence)
 
--- a command's time may have so many bytes
+-- a command's time has at most 64 bytes
 abbrev pub IsShortTime : List ℕ → Type 0
 IsShortTime at = length at ≤ 64
 

@@ -17,7 +17,7 @@ pub record Shown (S : Type 0) : Type 0 where
   pub base : ℕ
   pub last : ℕ
 
--- the source, the base and the last row of a service stay
+-- a service has the source, the base and the last row that it had
 abbrev pub IsSameService : {S : Type 0} → Shown S → Shown S → Type 0
 IsSameService old new = (new.source ≡ old.source) × (new.base ≡ old.base) × (new.last ≡ old.last)
 

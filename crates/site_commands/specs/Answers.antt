@@ -77,7 +77,7 @@ RefusesQuery C U has_lines (Some db) files (refusal.Database why) =
     × OrOfNamed IsUntold why
 RefusesQuery C U has_lines db files _ = ⊥
 
--- so it is where only files are asked
+-- why a question that is asked of files alone is refused
 abbrev pub RefusesFiles : (List ℕ → List ℕ → Type 0) → (List ℕ → Unread → Type 0)
     → Bool → List (List ℕ) → Refusal → Type 0
 RefusesFiles C U has_lines files = RefusesQuery C U has_lines None files
