@@ -14,21 +14,21 @@ use Rattle.attributes.specs.declared.content.Content.TheVariants as content
 use Rattle.attributes.specs.declared.content.Offered.{Offered}
 use Rattle.attributes.specs.declared.content.Offered.TheVariants as offered
 
--- a kind, a truth value, a whole number and a text
+-- of an attribute's value: a kind, a truth value, a whole number and a text
 abbrev Plain : Type 0
 Plain = ℕ × (Bool × (ℤ × List ℕ))
 
--- the code of these
+-- the code of an attribute value's kind, truth value, whole number and text
 abbrev plain_code : Coded Plain
 plain_code = coded× coded_ℕ (coded× coded_bool (coded× coded_ℤ (coded_list coded_ℕ)))
 
--- the kind of a value, and what it holds
+-- the kind of an attribute's value, and what it holds
 abbrev scalar_parts : Scalar → Plain
 scalar_parts (scalar.Flag b) = (0, (b, (pos 0, [])))
 scalar_parts (scalar.Whole z) = (1, (false, (z, [])))
 scalar_parts (scalar.Words t) = (2, (false, (pos 0, t)))
 
--- the value again
+-- the attribute's value again, from its kind and what it holds
 abbrev scalar_from : Plain → Scalar
 scalar_from p =
     cond (p.0 == 0) (scalar.Flag p.1.0)
@@ -39,18 +39,18 @@ scalar_back (scalar.Flag b) = refl
 scalar_back (scalar.Whole z) = refl
 scalar_back (scalar.Words t) = refl
 
--- the code of values
+-- the code of attributes' values
 abbrev pub scalar_code : Coded Scalar
 scalar_code = code_by Plain plain_code scalar_parts scalar_from scalar_back
 
--- the kind of what is given, and what it holds
+-- the kind of what is given for an attribute, and what it holds
 abbrev given_parts : Given → Plain
 given_parts (given.Flag b) = (0, (b, (pos 0, [])))
 given_parts (given.Whole z) = (1, (false, (z, [])))
 given_parts (given.Words t) = (2, (false, (pos 0, t)))
 given_parts given.Other = (3, (false, (pos 0, [])))
 
--- what was given again
+-- what was given for an attribute again
 abbrev given_from : Plain → Given
 given_from p =
     cond (p.0 == 0) (given.Flag p.1.0) (cond (p.0 == 1) (given.Whole p.1.1.0)
@@ -62,25 +62,25 @@ given_back (given.Whole z) = refl
 given_back (given.Words t) = refl
 given_back given.Other = refl
 
--- the code of what is given
+-- the code of what is given for an attribute
 abbrev pub given_code : Coded Given
 given_code = code_by Plain plain_code given_parts given_from given_back
 
--- a kind, a tree and bytes
+-- of an event's data: a kind, a tree and bytes
 abbrev Payload : Type 0
 Payload = ℕ × (Data × List ℕ)
 
--- the code of these
+-- the code of an event data's kind, tree and bytes
 abbrev payload_code : Coded Payload
 payload_code = coded× coded_ℕ (coded× tree_code (coded_list coded_ℕ))
 
--- the kind of a content, and what it holds
+-- the kind of an event's content, and what it holds
 abbrev content_parts : Content → Payload
 content_parts content.Nothing = (0, (null, []))
 content_parts (content.Tree d) = (1, (d, []))
 content_parts (content.Bytes b) = (2, (null, b))
 
--- the content again
+-- the event's content again, from its kind and what it holds
 abbrev content_from : Payload → Content
 content_from p =
     cond (p.0 == 0) content.Nothing
@@ -91,11 +91,11 @@ content_back content.Nothing = refl
 content_back (content.Tree d) = refl
 content_back (content.Bytes b) = refl
 
--- the code of contents
+-- the code of events' contents
 abbrev pub content_code : Coded Content
 content_code = code_by Payload payload_code content_parts content_from content_back
 
--- the kind of what is offered, and what it holds
+-- the kind of what is offered as an event's data, and what it holds
 abbrev offered_parts : Offered → Payload
 offered_parts offered.Nothing = (0, (null, []))
 offered_parts (offered.Tree d) = (1, (d, []))
@@ -103,7 +103,7 @@ offered_parts (offered.Bytes b) = (2, (null, b))
 offered_parts offered.Both = (3, (null, []))
 offered_parts offered.Undecodable = (4, (null, []))
 
--- what was offered again
+-- what was offered as an event's data again
 abbrev offered_from : Payload → Offered
 offered_from p =
     cond (p.0 == 0) offered.Nothing (cond (p.0 == 1) (offered.Tree p.1.0)
@@ -116,18 +116,18 @@ offered_back (offered.Bytes b) = refl
 offered_back offered.Both = refl
 offered_back offered.Undecodable = refl
 
--- the code of what is offered
+-- the code of what is offered as an event's data
 abbrev pub offered_code : Coded Offered
 offered_code = code_by Payload payload_code offered_parts offered_from offered_back
 
--- the code of events
+-- the code of event values
 abbrev pub event_code : Coded EventValue
 event_code =
     code_by (List (List ℕ × Scalar) × Content)
     (coded× (coded_list (coded× (coded_list coded_ℕ) scalar_code)) content_code)
     (λ e. (e.attributes, e.content)) (λ p. record { attributes = p.0; content = p.1 }) (λ _. refl)
 
--- the code of parts
+-- the code of an event's parts
 abbrev pub offer_code : Coded OfferValue
 offer_code =
     code_by (List (List ℕ × Given) × Offered)

@@ -27,7 +27,7 @@ impl Model for Batch {
 }
 
 impl Batch {
-    /// A batch without events. It takes no memory.
+    /// A batch of event values without events. It takes no memory.
     pub fn empty(alloc: Global) -> Batch
         ensures { result ≡ [] }
     {
@@ -36,21 +36,21 @@ impl Batch {
         }
     }
 
-    /// How many events wait.
+    /// How many events wait in the batch.
     pub fn len(&self) -> u64
         ensures { result ≡ length self.now }
     {
         self.items.len() as u64
     }
 
-    /// Whether no event waits.
+    /// Whether no event waits in the batch.
     pub fn is_empty(&self) -> bool
         ensures { IsTrue result ↔ (length self.now ≡ 0) }
     {
         self.items.is_empty()
     }
 
-    /// The event at a place; at 0 stands the next one to be taken.
+    /// The batch's event at a place; at 0 stands the next one to be taken.
     pub fn at(&self, i: u64) -> &Sequenced
         requires { i < length self.now }
         ensures { slice_get self.now i ≡ Some result.now }
@@ -58,8 +58,8 @@ impl Batch {
         &self.items[i as usize]
     }
 
-    /// Adds an event at the end, or hands it back where memory is refused. The time of many pushes
-    /// is in proportion to their number.
+    /// Adds an event at the end of the batch, or hands it back where memory is refused. The time of
+    /// many pushes is in proportion to their number.
     pub fn push(&mut self, event: Sequenced) -> Result<(), AllocFailed<Sequenced>>
         ensures ok { OnOk result (self.new ≡ self.old ++ event ∷ []) }
         ensures err { OnErr result (self.new ≡ self.old) }
@@ -68,7 +68,7 @@ impl Batch {
         self.items.push_back(event)
     }
 
-    /// Takes the first event out, where there is one. The same time for every length.
+    /// Takes the batch's first event out, where there is one. The same time for every length.
     pub fn take_front(&mut self) -> Option<Sequenced>
         ensures front { self.old ≡ option_to_list result ++ self.new }
         ensures some { IsSome result ↔ (0 < length self.old) }

@@ -1,9 +1,9 @@
 //! What an event keeps: its canonical text, the places of its attributes in it, and its key.
 
-ghost use Rattle.std.specs.Prelude.{◌≡◌, ◌+◌, ◌-◌, ◌<◌, ◌≤◌, ◌++◌, ◌^◌, bytes_eq, length, option_map, string_bytes, true, IfOk, IfSome, Some};
+ghost use Rattle.std.specs.Prelude.{◌≡◌, ◌+◌, ◌-◌, ◌<◌, ◌≤◌, ◌++◌, ◌^◌, length, option_map, string_bytes, true, IfOk, IfSome, Some};
 ghost use Rattle.attributes.specs.Character.{is_filled};
 ghost use Rattle.attributes.specs.Members.{value_at};
-ghost use Rattle.attributes.specs.steps.Place.{ArePlaces, HasPlaces, IsPlace, IsBody, IsSpan, aside_of, attributes_in, drafted, id_in, in_span, kind_in, payload_in, place_name, place_value, shown, source_in, text_of};
+ghost use Rattle.attributes.specs.steps.Place.{ArePlaces, HasPlaces, IsPlace, IsBody, IsSpan, aside_of, drafted, id_in, in_span, kind_in, payload_in, place_name, place_value, shown, source_in, text_of};
 ghost use Rattle.attributes.specs.Event.{scalar_of, words_or_empty};
 
 use std::alloc::AllocError;
@@ -71,7 +71,7 @@ pub(crate) struct Body {
     pub(crate) payload: Stretch,
 }
 
-/// The text between two marks.
+/// The part of an event's text between two marks.
 fn between(text: &str, start: usize, end: usize) -> &str
     requires { IsSpan text.now (record { start = start; end = end }) }
     ensures { result.now ≡ in_span text.now (record { start = start; end = end }) }
@@ -79,7 +79,7 @@ fn between(text: &str, start: usize, end: usize) -> &str
     &text[start..end]
 }
 
-/// The text of a span.
+/// The text of a span in an event's kept string.
 fn spanned(text: &str, span: Span) -> &str
     requires { IsSpan text.now span }
     ensures { result.now ≡ in_span text.now span }
@@ -87,14 +87,7 @@ fn spanned(text: &str, span: Span) -> &str
     between(text, span.start as usize, span.end as usize)
 }
 
-/// Whether two names have the same bytes.
-fn is_same(name: &str, other: &str) -> bool
-    ensures { result ≡ bytes_eq name.now other.now }
-{
-    name == other
-}
-
-/// The name of the attribute of a place.
+/// The name of the attribute of a place in an event's kept string.
 fn name_at<'a>(text: &'a str, aside: &'a str, place: Place) -> &'a str
     requires { IsPlace text.now aside.now place }
     ensures { result.now ≡ place_name text.now aside.now place }
@@ -105,8 +98,8 @@ fn name_at<'a>(text: &'a str, aside: &'a str, place: Place) -> &'a str
     }
 }
 
-/// The value of the attribute of a place.
-fn value_of<'a>(text: &'a str, aside: &'a str, place: Place) -> Attribute<'a>
+/// The value of the attribute of a place in an event's kept string.
+pub(crate) fn value_of<'a>(text: &'a str, aside: &'a str, place: Place) -> Attribute<'a>
     requires { IsPlace text.now aside.now place }
     ensures { scalar_of result ≡ place_value text.now aside.now place }
 {
@@ -119,34 +112,22 @@ fn value_of<'a>(text: &'a str, aside: &'a str, place: Place) -> Attribute<'a>
     }
 }
 
-/// The place of the attribute of this name.
-fn place_in(text: &str, aside: &str, places: &[Place], name: &str) -> Option<Place>
+/// The place in an event's kept string of the attribute of this name.
+pub(crate) fn place_in(text: &str, aside: &str, places: &[Place], name: &str) -> Option<Place>
     requires { ArePlaces text.now aside.now places.now }
     ensures stands { IfSome result (λ p. IsPlace text.now aside.now p) }
     ensures value { option_map (λ p. place_value text.now aside.now p) result
         ≡ value_at name.now (shown text.now aside.now places.now) }
 {
     for place in places {
-        if is_same(name, name_at(text, aside, *place)) {
+        if name == name_at(text, aside, *place) {
             return Some(*place);
         }
     }
     None
 }
 
-/// The value of the attribute of this name, by its place.
-fn find_in<'a>(text: &'a str, aside: &'a str, places: &[Place], name: &str) -> Option<Attribute<'a>>
-    requires { ArePlaces text.now aside.now places.now }
-    ensures { option_map scalar_of result
-        ≡ value_at name.now (shown text.now aside.now places.now) }
-{
-    match place_in(text, aside, places, name) {
-        Some(place) => Some(value_of(text, aside, place)),
-        None => None,
-    }
-}
-
-/// Where the words of a place stand once what is aside stands behind the text.
+/// Where an attribute's words stand once the escaped ones stand behind an event's canonical text.
 fn joined_span(text: &str, aside: &str, place: Place) -> Span
     requires short { length text.now + length aside.now < 2 ^ 32 }
     requires place { IsPlace text.now aside.now place }
@@ -173,7 +154,7 @@ fn joined_span(text: &str, aside: &str, place: Place) -> Span
     }
 }
 
-/// Where the words of the attribute of this name stand once what is aside stands behind the text.
+/// Where the words of this attribute stand once what is aside stands behind the canonical text.
 pub(crate) fn words_in(draft: &Draft, name: &str) -> Span
     requires short { length (string_bytes draft.now.text) + length (string_bytes draft.now.aside)
         < 2 ^ 32 }
@@ -192,7 +173,7 @@ pub(crate) fn words_in(draft: &Draft, name: &str) -> Span
 }
 
 impl Body {
-    /// The canonical text.
+    /// The canonical text of the event.
     pub(crate) fn text(&self) -> &str
         requires { IsBody self.now }
         ensures { result.now ≡ text_of self.now }
@@ -200,15 +181,15 @@ impl Body {
         &self.all[..self.text_end as usize]
     }
 
-    /// What stands behind the canonical text.
-    fn aside(&self) -> &str
+    /// What stands behind the event's canonical text.
+    pub(crate) fn aside(&self) -> &str
         requires { IsBody self.now }
         ensures { result.now ≡ aside_of self.now }
     {
         &self.all[self.text_end as usize..]
     }
 
-    /// The JSON text of the payload member's value.
+    /// The JSON text of the value of the event's payload member.
     pub(crate) fn payload(&self) -> &str
         requires { IsBody self.now }
         ensures { result.now ≡ payload_in self.now }
@@ -216,7 +197,7 @@ impl Body {
         &self.text()[self.payload.start as usize..self.payload.end as usize]
     }
 
-    /// The attribute `source`.
+    /// The event's attribute `source`.
     pub(crate) fn source(&self) -> &str
         requires { IsBody self.now }
         ensures { result.now ≡ source_in self.now }
@@ -224,7 +205,7 @@ impl Body {
         spanned(self.all.as_str(), self.source)
     }
 
-    /// The attribute `id`.
+    /// The event's attribute `id`.
     pub(crate) fn id(&self) -> &str
         requires { IsBody self.now }
         ensures { result.now ≡ id_in self.now }
@@ -236,7 +217,7 @@ impl Body {
         )
     }
 
-    /// The attribute `type`.
+    /// The event's attribute `type`.
     pub(crate) fn kind(&self) -> &str
         requires { IsBody self.now }
         ensures { result.now ≡ kind_in self.now }
@@ -244,15 +225,7 @@ impl Body {
         spanned(self.all.as_str(), self.kind)
     }
 
-    /// The value of the attribute of this name. Goes over the names.
-    pub(crate) fn find(&self, name: &str) -> Option<Attribute<'_>>
-        requires { IsBody self.now }
-        ensures { option_map scalar_of result ≡ value_at name.now (attributes_in self.now) }
-    {
-        find_in(self.text(), self.aside(), self.places.as_slice(), name)
-    }
-
-    /// What is equal, with a string of its own.
+    /// The body of an equal event, with a string of its own.
     pub(crate) fn copy(&self) -> Result<Body, AllocError>
         ensures all { IfOk result (λ s. string_bytes s.all ≡ string_bytes self.now.all) }
         ensures places { IfOk result (λ s. s.places.items ≡ self.now.places.items) }

@@ -48,7 +48,7 @@ pub(crate) enum Kept {
 }
 
 impl Kept {
-    /// What is kept of a content, whose tree is let go.
+    /// What is kept of an event's content, whose tree is let go.
     pub(crate) fn of(content: Content) -> Kept
         ensures { result ≡ kept_of content }
     {
@@ -59,7 +59,7 @@ impl Kept {
         }
     }
 
-    /// What is equal. Time and memory in proportion to the bytes.
+    /// What is equal to an event's kept content. Time and memory in proportion to the bytes.
     pub(crate) fn copy(&self) -> Result<Kept, AllocError>
         ensures { IfOk result (λ k. k ≡ self.now) }
     {

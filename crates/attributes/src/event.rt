@@ -15,7 +15,7 @@ ghost use Rattle.attributes.specs.Time.{time_day};
 ghost use Rattle.attributes.specs.Fault.{IsEvent, fault, has_whole_numbers, is_shallow, max_text, member_fault, offered_of, payload_fault};
 ghost use Rattle.attributes.specs.declared.fault.Fault.TheVariants.{OutOfMemory, TooLarge};
 
-use crate::body::{Attribute, Body};
+use crate::body::{Attribute, Body, place_in, value_of};
 use crate::canonical::{canonical, sealed};
 use crate::content::{Content, Kept, Offered, Payload};
 use crate::fault::Fault;
@@ -59,7 +59,7 @@ impl Model for Event {
 /// Events in an order.
 pub type Events = List<Event>;
 
-/// The text of an attribute, where it is one.
+/// The text of an event's attribute, where it is one.
 fn words_of<'a>(attribute: Option<Attribute<'a>>) -> Option<&'a str>
     ensures { option_copied result ≡ words_of (option_map scalar_of attribute.entry) }
 {
@@ -69,7 +69,7 @@ fn words_of<'a>(attribute: Option<Attribute<'a>>) -> Option<&'a str>
     }
 }
 
-/// What offered data is carried as.
+/// What an event carries of the data offered for it.
 fn content_of(offered: Offered) -> Content
     ensures { result ≡ content_of offered }
 {
@@ -88,24 +88,13 @@ fn content_of(offered: Offered) -> Content
     }
 }
 
-/// The UTC day of a time, where there is one.
+/// The UTC day of an event's time, where there is one.
 fn time_day(time: Option<&str>) -> Option<i32>
     ensures { result ≡ option_and_then time_day (option_copied time.entry) }
 {
     match time {
         Some(time) => day_in(time),
         None => None,
-    }
-}
-
-/// The first fault of parts that is found before any memory is asked for.
-fn first_fault(members: &BTreeMap<String, Given>, offered: &Offered) -> Option<Fault>
-    ensures { result
-        ≡ option_or (member_fault (named members.now.entries)) (payload_fault offered.now) }
-{
-    match first_member_fault(members) {
-        None => first_payload_fault(offered),
-        Some(fault) => Some(fault),
     }
 }
 
@@ -161,7 +150,11 @@ impl Event {
             → option_or (member_fault parts.members) (payload_fault parts.offered) ≡ Some f
             → result ≡ Err f }
     {
-        match first_fault(&parts.members, &parts.offered) {
+        match first_member_fault(&parts.members) {
+            None => {}
+            Some(fault) => return Err(fault),
+        }
+        match first_payload_fault(&parts.offered) {
             None => {}
             Some(fault) => return Err(fault),
         }
@@ -182,11 +175,16 @@ impl Event {
         self.body.text()
     }
 
-    /// The value of an attribute. Goes over the names.
+    /// The value of an attribute of the event. Goes over the names.
     pub fn attribute(&self, name: &str) -> Option<Attribute<'_>>
         ensures { option_map scalar_of result ≡ attribute_of name.now self.now }
     {
-        self.body.find(name)
+        let text = self.body.text();
+        let aside = self.body.aside();
+        match place_in(text, aside, self.body.places.as_slice(), name) {
+            Some(place) => Some(value_of(text, aside, place)),
+            None => None,
+        }
     }
 
     /// The attribute `id`, which tells the events of one source apart.
@@ -246,7 +244,7 @@ impl Event {
         }
     }
 
-    /// An event that is equal. Time and memory in proportion to its text.
+    /// An event value that is equal. Time and memory in proportion to its text.
     pub fn copy(&self) -> Result<Event, AllocError>
         ensures { IfOk result (λ e. e ≡ self.now) }
     {
@@ -259,7 +257,7 @@ impl Event {
         })
     }
 
-    /// The order of the canonical texts as bytes.
+    /// The order of two events' canonical texts as bytes.
     pub fn compare(&self, other: &Event) -> Ordering
         ensures order { result ≡ byte_cmp (text self.now) (text other.now) }
         ensures same { (result ≡ Equal) ↔ (self.now ≡ other.now) }

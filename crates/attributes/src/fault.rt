@@ -84,7 +84,7 @@ impl<T: Drop> From<AllocFailed<T>> for Fault {
 }
 
 impl Fault {
-    /// The number that the fault is known by, 1 to 18.
+    /// The number that an event's fault is known by, 1 to 18.
     pub fn number(self) -> u8
         ensures { result ≡ fault_number self }
     {

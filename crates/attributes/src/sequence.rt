@@ -36,8 +36,8 @@ impl Model for Sequence {
 }
 
 impl Sequence {
-    /// Reads exactly twenty digits of ASCII. At a fixed width the order of the texts as bytes is
-    /// that of the numbers.
+    /// Reads exactly twenty digits of ASCII as a sequence number. At a fixed width the order of the
+    /// texts as bytes is that of the numbers.
     pub fn of_text(text: &str) -> Option<Sequence>
         ensures { result ≡ sequence_of text.now }
     {
@@ -50,7 +50,7 @@ impl Sequence {
         }
     }
 
-    /// The sequence of a number, where it is in range.
+    /// An event's sequence number from a whole number, where it is in range.
     pub fn of_u64(number: u64) -> Option<Sequence>
         ensures { result ≡ (if is_sequence number then Some number else None) }
     {
@@ -61,7 +61,7 @@ impl Sequence {
         }
     }
 
-    /// The twenty digits of the number.
+    /// The twenty digits of the sequence number.
     pub fn digits(self, alloc: Global) -> Result<Text, AllocError>
         ensures { IfOk result (λ t. sequence_of t ≡ Some self) }
     {
@@ -74,7 +74,7 @@ impl Sequence {
         Ok(Text::from_string(text))
     }
 
-    /// The number, from 1 on.
+    /// The sequence number, from 1 on.
     pub fn number(self) -> u64
         ensures value { result ≡ self }
         ensures low { 1 ≤ result }
@@ -113,7 +113,7 @@ pub struct Unsequenced {
     pub fault: Fault,
 }
 
-/// The number of an attribute, where it is a text that has one.
+/// The sequence number of an attribute, where it is a text that has one.
 fn number_at(attribute: Option<Attribute<'_>>) -> Option<Sequence>
     ensures { result
         ≡ option_and_then sequence_of (words_of (option_map scalar_of attribute.entry)) }
@@ -124,7 +124,7 @@ fn number_at(attribute: Option<Attribute<'_>>) -> Option<Sequence>
     }
 }
 
-/// Why an attribute is no number.
+/// Why an attribute is no sequence number.
 fn fault_at(attribute: Option<Attribute<'_>>) -> Fault
     ensures { result ≡ fault_at (option_map scalar_of attribute.entry) }
 {
@@ -156,21 +156,21 @@ impl Sequenced {
         }
     }
 
-    /// The event, lent.
+    /// The event that has a sequence number, lent.
     pub fn event(&self) -> &Event
         ensures { result.now ≡ self.now }
     {
         &self.event
     }
 
-    /// The number of its attribute `sequence`.
+    /// The number of the event's attribute `sequence`.
     pub fn number(&self) -> Sequence
         ensures { number_of self.now ≡ Some result }
     {
         self.sequence
     }
 
-    /// An event that is equal. Time and memory in proportion to its text.
+    /// A numbered event that is equal. Time and memory in proportion to its text.
     pub fn copy(&self) -> Result<Sequenced, AllocError>
         ensures { IfOk result (λ s. s ≡ self.now) }
     {

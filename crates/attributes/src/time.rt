@@ -32,7 +32,7 @@ impl Model for Moment {
     ghost invariant = { λ m. time_day m.text ≡ Some m.day };
 }
 
-/// Whether this byte stands at a place.
+/// Whether this byte stands at a place of an event's time.
 fn has_byte_at(bytes: &[u8], i: usize, byte: u8) -> bool
     requires { i < length bytes.now }
     ensures { result ≡ has_byte_at bytes.now i byte }
@@ -40,7 +40,7 @@ fn has_byte_at(bytes: &[u8], i: usize, byte: u8) -> bool
     bytes[i] == byte
 }
 
-/// Whether two digits stand from a place on.
+/// Whether two digits stand from a place of an event's time on.
 fn are_digits_at(bytes: &[u8], i: usize) -> bool
     requires { i + 1 < length bytes.now }
     ensures { result ≡ are_digits_at bytes.now i }
@@ -48,7 +48,7 @@ fn are_digits_at(bytes: &[u8], i: usize) -> bool
     bytes[i].is_ascii_digit() && bytes[i + 1].is_ascii_digit()
 }
 
-/// The number that two digits write.
+/// The number that two digits of an event's time write.
 fn two_at(bytes: &[u8], i: usize) -> u32
     requires inside { i + 1 < length bytes.now }
     requires digits { are_digits_at bytes.now i ≡ true }
@@ -58,7 +58,7 @@ fn two_at(bytes: &[u8], i: usize) -> u32
     10 * (bytes[i] - b'0') as u32 + (bytes[i + 1] - b'0') as u32
 }
 
-/// Whether a date stands at the beginning, and the letter behind it.
+/// Whether a date stands at the beginning of an event's time, and the letter behind it.
 fn has_date(bytes: &[u8]) -> bool
     requires { 20 ≤ length bytes.now }
     ensures { result ≡ has_date bytes.now }
@@ -72,7 +72,7 @@ fn has_date(bytes: &[u8]) -> bool
         && (has_byte_at(bytes, 10, b'T') || has_byte_at(bytes, 10, b't'))
 }
 
-/// Whether a clock stands behind that.
+/// Whether a clock stands behind the date of an event's time.
 fn has_clock(bytes: &[u8]) -> bool
     requires { 20 ≤ length bytes.now }
     ensures { result ≡ has_clock bytes.now }
@@ -84,14 +84,14 @@ fn has_clock(bytes: &[u8]) -> bool
         && are_digits_at(bytes, 17)
 }
 
-/// Whether a date and a clock stand there, and something after them.
+/// Whether an event's time has a date and a clock, and something after them.
 fn has_shape(bytes: &[u8]) -> bool
     ensures { result ≡ has_shape bytes.now }
 {
     bytes.len() >= 20 && has_date(bytes) && has_clock(bytes)
 }
 
-/// The day number of a date, where the calendar has it.
+/// The day number of the date of an event's time, where the calendar has it.
 fn date_day(year: u32, month: u32, day: u32) -> Option<i32>
     requires years { year < 10000 }
     requires months { month < 100 }
@@ -106,7 +106,7 @@ fn date_day(year: u32, month: u32, day: u32) -> Option<i32>
     }
 }
 
-/// Whether hour, minute and second of a time are in range.
+/// Whether hour, minute and second of an event's time are in range.
 fn is_clock(bytes: &[u8]) -> bool
     requires { IsShaped bytes.now }
     ensures { result ≡ is_clock bytes.now }
@@ -114,7 +114,7 @@ fn is_clock(bytes: &[u8]) -> bool
     two_at(bytes, 11) <= 23 && two_at(bytes, 14) <= 59 && two_at(bytes, 17) <= 60
 }
 
-/// The day number of the date, where date and clock are in range.
+/// The day number of the date of an event's time, where date and clock are in range.
 fn civil_day(bytes: &[u8]) -> Option<i32>
     requires { IsShaped bytes.now }
     ensures date { IfSome result IsEpochDay }
@@ -130,7 +130,7 @@ fn civil_day(bytes: &[u8]) -> Option<i32>
     )
 }
 
-/// The second of the day; second 60 counts as 59.
+/// The second of the day of an event's time; second 60 counts as 59.
 fn second_of_day(bytes: &[u8]) -> u32
     requires { IsShaped bytes.now }
     ensures value { result ≡ second_of_day bytes.now }
@@ -139,7 +139,7 @@ fn second_of_day(bytes: &[u8]) -> u32
     3600 * two_at(bytes, 11) + 60 * two_at(bytes, 14) + two_at(bytes, 17).min(59)
 }
 
-/// How many digits stand at the beginning.
+/// How many digits stand at the beginning of the fraction of an event's time.
 fn leading_digits(bytes: &[u8]) -> usize
     ensures value { result ≡ length (take_while is_ascii_digit bytes.now) }
     ensures within { result ≤ length bytes.now }
@@ -147,7 +147,7 @@ fn leading_digits(bytes: &[u8]) -> usize
     bytes.iter().take_while(|b| b.is_ascii_digit()).count()
 }
 
-/// What follows one or more digits.
+/// What follows one or more digits of the fraction of an event's time.
 fn after_digits(bytes: &[u8]) -> Option<&[u8]>
     ensures { option_copied result ≡ after_digits bytes.now }
 {
@@ -158,7 +158,7 @@ fn after_digits(bytes: &[u8]) -> Option<&[u8]>
     Some(&rest[leading_digits(rest)..])
 }
 
-/// What follows a fraction, where one stands.
+/// What follows a fraction of an event's second, where one stands.
 fn after_fraction(bytes: &[u8]) -> Option<&[u8]>
     ensures { option_copied result ≡ after_fraction bytes.now }
 {
@@ -168,14 +168,14 @@ fn after_fraction(bytes: &[u8]) -> Option<&[u8]>
     after_digits(&bytes[1..])
 }
 
-/// Whether the zone is `Z` or `z`.
+/// Whether the zone of an event's time is `Z` or `z`.
 fn is_utc(zone: &[u8]) -> bool
     ensures { result ≡ is_utc zone.now }
 {
     zone.len() == 1 && (has_byte_at(zone, 0, b'Z') || has_byte_at(zone, 0, b'z'))
 }
 
-/// Whether the zone is an offset, with hours to 23 and minutes to 59.
+/// Whether an event's time zone is an offset, with hours to 23 and minutes to 59.
 fn is_offset(zone: &[u8]) -> bool
     ensures { result ≡ is_offset zone.now }
 {
@@ -188,7 +188,7 @@ fn is_offset(zone: &[u8]) -> bool
         && two_at(zone, 4) <= 59
 }
 
-/// The seconds that a zone is ahead of UTC.
+/// The seconds that the zone of an event's time is ahead of UTC.
 fn offset_of(zone: &[u8]) -> Option<i32>
     ensures value { result ≡ offset_of zone.now }
     ensures small { IfSome result (λ z. IsWithin 90000 z) }
@@ -207,7 +207,7 @@ fn offset_of(zone: &[u8]) -> Option<i32>
     }
 }
 
-/// The day, where it is one of the years 0000 to 9999.
+/// The day of an event's time, where it is one of the years 0000 to 9999.
 fn if_in_range(day: i64) -> Option<i32>
     ensures { result ≡ if_in_range day }
 {
@@ -218,7 +218,7 @@ fn if_in_range(day: i64) -> Option<i32>
     }
 }
 
-/// The UTC day of a second of a day with this offset.
+/// The UTC day of an event's time: of a second of a day with this offset.
 fn utc_day(day: i32, second: u32, offset: i32) -> Option<i32>
     requires date { IsEpochDay day }
     requires seconds { second < 1000000 }
@@ -229,7 +229,7 @@ fn utc_day(day: i32, second: u32, offset: i32) -> Option<i32>
     if_in_range(seconds.div_euclid(86_400))
 }
 
-/// The day of a date and clock, by what follows them.
+/// The day of the date and clock of an event's time, by what follows them.
 fn zoned_day(bytes: &[u8], day: i32) -> Option<i32>
     requires shaped { IsShaped bytes.now }
     requires date { IsEpochDay day }
@@ -245,7 +245,7 @@ fn zoned_day(bytes: &[u8], day: i32) -> Option<i32>
     }
 }
 
-/// The day of a time; none where the text is no time.
+/// The day of an attribute `time`; none where the text is no time.
 pub(crate) fn day_in(text: &str) -> Option<i32>
     ensures { result ≡ time_day text.now }
 {
@@ -281,14 +281,14 @@ impl Moment {
         }
     }
 
-    /// The time as it was written.
+    /// The attribute `time` as it was written.
     pub fn as_str(&self) -> &str
         ensures { result.now ≡ self.now }
     {
         self.text.as_str()
     }
 
-    /// The UTC day, counted from 1970-01-01, in -719,528 to 2,932,896.
+    /// The UTC day of an event's time, counted from 1970-01-01, in -719,528 to 2,932,896.
     pub fn day(&self) -> i32
         ensures { time_day self.now ≡ Some result }
     {

@@ -66,7 +66,7 @@ impl Tree {
     }
 }
 
-/// Whether a number of the value is no whole one of 64 bits.
+/// Whether a number of an event's data is no whole one of 64 bits.
 #[cycle(floats)]
 pub(crate) fn any_float(value: &Value) -> bool
     ensures { result ≡ has_float (tree_of value.now) }
@@ -79,7 +79,7 @@ pub(crate) fn any_float(value: &Value) -> bool
     }
 }
 
-/// Whether a number of the items is none.
+/// Whether a number of the items of an event's data is no whole one of 64 bits.
 #[cycle(floats)]
 fn items_any_float(items: &Vec<Value>) -> bool
     ensures { result ≡ items_have_float (items_view items.now.items) }
@@ -92,7 +92,7 @@ fn items_any_float(items: &Vec<Value>) -> bool
     false
 }
 
-/// Whether a number of the members is none.
+/// Whether a number of the members of an event's data is no whole one of 64 bits.
 #[cycle(floats)]
 fn members_any_float(members: &Map<String, Value>) -> bool
     ensures { result ≡ members_have_float (members_view members.now.entries) }
@@ -105,7 +105,7 @@ fn members_any_float(members: &Map<String, Value>) -> bool
     false
 }
 
-/// Whether arrays and objects nest at most that deep in the value.
+/// Whether arrays and objects nest at most that deep in an event's data.
 #[cycle(depths)]
 pub(crate) fn is_within(value: &Value, limit: u8) -> bool
     ensures { result ≡ nat_le (depth (tree_of value.now)) limit }
@@ -117,7 +117,7 @@ pub(crate) fn is_within(value: &Value, limit: u8) -> bool
     }
 }
 
-/// Whether the items do.
+/// Whether the items in an event's data nest at most that deep.
 #[cycle(depths)]
 fn items_within(items: &Vec<Value>, limit: u8) -> bool
     ensures { result ≡ nat_le (items_depth (items_view items.now.items)) limit }
@@ -130,7 +130,7 @@ fn items_within(items: &Vec<Value>, limit: u8) -> bool
     true
 }
 
-/// Whether the members do.
+/// Whether the members in an event's data nest at most that deep.
 #[cycle(depths)]
 fn members_within(members: &Map<String, Value>, limit: u8) -> bool
     ensures { result ≡ nat_le (members_depth (members_view members.now.entries)) limit }

@@ -10,7 +10,7 @@ ghost use Rattle.attributes.specs.Members.{named, value_at};
 ghost use Rattle.attributes.specs.steps.Given.{given_words, is_allowed_value};
 ghost use Rattle.attributes.specs.Fault.{is_allowed, is_attribute, is_required, is_time, is_version, member_fault, payload_fault};
 
-use crate::character::{is_name, is_printable, is_version};
+use crate::character::{is_name, is_printable};
 use crate::content::Offered;
 use crate::fault::Fault;
 use crate::scalar::Given;
@@ -22,14 +22,14 @@ use std::collections::BTreeMap;
 /// How deep arrays and objects may nest in data.
 const MAX_DATA_DEPTH: u8 = 120;
 
-/// What is given at a name.
+/// What is given at a name for an attribute.
 fn at<'a>(members: &'a BTreeMap<String, Given>, name: &str) -> Option<&'a Given>
     ensures { option_copied result ≡ value_at name.now (named members.now.entries) }
 {
     members.get(name)
 }
 
-/// What is given, where it is a text.
+/// What is given for an attribute, where it is a text.
 fn given_words(given: Option<&Given>) -> Option<&str>
     ensures { option_copied result ≡ given_words (option_copied given.entry) }
 {
@@ -39,14 +39,14 @@ fn given_words(given: Option<&Given>) -> Option<&str>
     }
 }
 
-/// The text of a member, where it is there and a text.
+/// The text given for an attribute, where it is there and a text.
 pub(crate) fn words_at<'a>(members: &'a BTreeMap<String, Given>, name: &str) -> Option<&'a str>
     ensures { option_copied result ≡ given_words (value_at name.now (named members.now.entries)) }
 {
     given_words(at(members, name))
 }
 
-/// The same, or else the empty text.
+/// The text given for an attribute, or else the empty text.
 pub(crate) fn words_or_empty_at<'a>(members: &'a BTreeMap<String, Given>, name: &str) -> &'a str
     ensures { result.now
         ≡ unwrap_or (given_words (value_at name.now (named members.now.entries))) [] }
@@ -57,17 +57,17 @@ pub(crate) fn words_or_empty_at<'a>(members: &'a BTreeMap<String, Given>, name: 
     }
 }
 
-/// Whether it is there, and the one version.
+/// Whether the attribute `specversion` is there, and the one version.
 fn is_required_version(given: Option<&Given>) -> bool
     ensures { result ≡ is_required is_version (option_copied given.entry) }
 {
     match given {
-        Some(Given::Words(text)) => is_version(text.as_str()),
+        Some(Given::Words(text)) => text.as_str() == "1.0",
         _ => false,
     }
 }
 
-/// Whether it is there and a filled text; `passed` says that all texts are printable.
+/// Whether an attribute is there and a filled text; `passed` says that all texts are printable.
 fn is_filled_text(given: Option<&Given>, passed: bool) -> bool
     requires { passed ≡ true → is_allowed_value (option_copied given) ≡ true }
     ensures { result ≡ is_required is_filled (option_copied given.entry) }
@@ -80,15 +80,7 @@ fn is_filled_text(given: Option<&Given>, passed: bool) -> bool
     }
 }
 
-/// The same of a member that must be there.
-fn is_required_at(members: &BTreeMap<String, Given>, name: &str, passed: bool) -> bool
-    requires { passed ≡ true → list_all (λ m. is_attribute m.1) (named members.now.entries) ≡ true }
-    ensures { result ≡ is_required is_filled (value_at name.now (named members.now.entries)) }
-{
-    is_filled_text(at(members, name), passed)
-}
-
-/// The same of a member that may be there.
+/// Whether an attribute that may be there is a filled text; `passed`: all texts are printable.
 fn is_allowed_at(members: &BTreeMap<String, Given>, name: &str, passed: bool) -> bool
     requires { passed ≡ true → list_all (λ m. is_attribute m.1) (named members.now.entries) ≡ true }
     ensures { result ≡ is_allowed is_filled (value_at name.now (named members.now.entries)) }
@@ -99,7 +91,7 @@ fn is_allowed_at(members: &BTreeMap<String, Given>, name: &str, passed: bool) ->
     }
 }
 
-/// Whether it is a time, where it is there.
+/// Whether the attribute `time` is a time, where it is there.
 fn is_allowed_time(given: Option<&Given>) -> bool
     ensures { result ≡ is_allowed is_time (option_copied given.entry) }
 {
@@ -110,21 +102,6 @@ fn is_allowed_time(given: Option<&Given>) -> bool
     }
 }
 
-/// Whether a value may be that of an attribute.
-fn is_attribute(given: &Given) -> bool
-    ensures { result ≡ is_attribute given.now }
-{
-    match given {
-        Given::Flag(_) => true,
-        Given::Whole(number) => {
-            let _whole = *number;
-            true
-        }
-        Given::Words(text) => is_printable(text.as_str()),
-        Given::Other => false,
-    }
-}
-
 /// Whether all names pass, and whether all values do.
 #[derive(Clone, Copy)]
 struct Passed {
@@ -132,7 +109,7 @@ struct Passed {
     values: bool,
 }
 
-/// Tests the names and the values of all members in one pass.
+/// Tests the names and the values of all attributes in one pass.
 fn passed_tests(members: &BTreeMap<String, Given>) -> Passed
     ensures names { result.names ≡ list_all (λ m. is_name m.0) (named members.now.entries) }
     ensures values { result.values ≡ list_all (λ m. is_attribute m.1) (named members.now.entries) }
@@ -141,13 +118,22 @@ fn passed_tests(members: &BTreeMap<String, Given>) -> Passed
     let mut values = true;
     for (name, given) in members {
         names = names && is_name(name.as_str());
-        values = values && is_attribute(given);
+        values = values
+            && match given {
+                Given::Flag(_) => true,
+                Given::Whole(number) => {
+                    let _whole = *number;
+                    true
+                }
+                Given::Words(text) => is_printable(text.as_str()),
+                Given::Other => false,
+            };
     }
     Passed { names, values }
 }
 
-/// The first fault of the members, where they have one. Texts and names are gone through once, and
-/// eight of the names are looked up.
+/// The first fault of an event's attributes, where they have one. Texts and names are gone through
+/// once, and eight of the names are looked up.
 pub(crate) fn first_member_fault(members: &BTreeMap<String, Given>) -> Option<Fault>
     ensures { result ≡ member_fault (named members.now.entries) }
 {
@@ -155,13 +141,13 @@ pub(crate) fn first_member_fault(members: &BTreeMap<String, Given>) -> Option<Fa
     if !is_required_version(at(members, "specversion")) {
         return Some(Fault::SpecVersion);
     }
-    if !is_required_at(members, "id", passed.values) {
+    if !is_filled_text(at(members, "id"), passed.values) {
         return Some(Fault::Id);
     }
-    if !is_required_at(members, "source", passed.values) {
+    if !is_filled_text(at(members, "source"), passed.values) {
         return Some(Fault::Source);
     }
-    if !is_required_at(members, "type", passed.values) {
+    if !is_filled_text(at(members, "type"), passed.values) {
         return Some(Fault::Kind);
     }
     if !is_allowed_at(members, "subject", passed.values) {
@@ -185,7 +171,7 @@ pub(crate) fn first_member_fault(members: &BTreeMap<String, Given>) -> Option<Fa
     None
 }
 
-/// The first fault of data, where it has one.
+/// The first fault of an event's data, where it has one.
 fn tree_fault(value: &Value) -> Option<Fault>
     ensures { result ≡ payload_fault (Tree (tree_of value.now)) }
 {
@@ -198,7 +184,7 @@ fn tree_fault(value: &Value) -> Option<Fault>
     None
 }
 
-/// The first fault of what is offered as data, where it has one. A tree is gone through twice.
+/// The first fault of an event's offered data, where it has one. A tree is gone through twice.
 pub(crate) fn first_payload_fault(offered: &Offered) -> Option<Fault>
     ensures { result ≡ payload_fault offered.now }
 {

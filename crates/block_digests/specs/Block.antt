@@ -24,7 +24,7 @@ is_in_block source k e =
 abbrev pub has_block : List EventValue → List ℕ → ℕ → Bool
 has_block E source k = list_any (is_in_block source k) E
 
--- by number, then canonical text
+-- a block's events in order: by number, then canonical text
 abbrev pub line_cmp : EventValue → EventValue → Ordering
 line_cmp e f = ordering_then (nat_cmp (number_or_0 e) (number_or_0 f)) (text_cmp e f)
 
@@ -37,6 +37,6 @@ unfoldable pub lines : List EventValue → List ℕ
 lines [] = []
 lines (e ∷ es) = text e ++ 10 ∷ lines es
 
--- the text of a block
+-- the text of a block, of which its digest is made
 abbrev pub block_text : List EventValue → List ℕ → ℕ → List ℕ
 block_text E source k = lines (block E source k)

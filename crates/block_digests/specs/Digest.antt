@@ -8,7 +8,7 @@ use Rattle.block_digests.specs.Block.{block_text, has_block}
 abbrev pub digest_in : List EventValue → List ℕ → ℕ → Option (List ℕ)
 digest_in E source k = if has_block E source k then Some (sha256 (block_text E source k)) else None
 
--- whether both are there and equal
+-- whether both digests of a block are there and equal
 abbrev pub is_one_digest : Option (List ℕ) → Option (List ℕ) → Bool
 is_one_digest None other = false
 is_one_digest (Some d) None = false

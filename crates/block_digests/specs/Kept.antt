@@ -20,21 +20,21 @@ pub record KeptBlock : Type 0 where
   pub places : List ℕ
   pub digest : Option (List ℕ)
 
--- blocks, and sources in byte order, each with the numbers of its blocks and where they stand
+-- blocks with digests; sources in byte order, each with its blocks' numbers and where they stand
 pub record KeptBlocks : Type 0 where
   pub index : List (List ℕ × List (ℕ × ℕ))
   pub blocks : List KeptBlock
 
--- where the block of a source stands, where it has one
+-- where the block of a source stands among those kept with digests, where it has one
 abbrev pub position_of : List (List ℕ × List (ℕ × ℕ)) → List ℕ → ℕ → Option ℕ
 position_of index source k =
     option_and_then (λ ks. lookup (is_at (nat_cmp k)) ks) (lookup (is_at (byte_cmp source)) index)
 
--- what is kept for a source and the number of a block, where something is
+-- what is kept for a digest of a source and the number of a block, where something is
 abbrev pub block_at : KeptBlocks → List ℕ → ℕ → Option KeptBlock
 block_at kept source k = option_and_then (slice_get kept.blocks) (position_of kept.index source k)
 
--- the places that are kept for a block
+-- the places of events that are kept for a block's digest
 abbrev pub places_at : KeptBlocks → List ℕ → ℕ → List ℕ
 places_at kept source k = option_map_or (λ b. b.places) (block_at kept source k) []
 
@@ -42,14 +42,14 @@ places_at kept source k = option_map_or (λ b. b.places) (block_at kept source k
 abbrev pub digest_kept : KeptBlocks → List ℕ → ℕ → Option (List ℕ)
 digest_kept kept source k = option_map_or (λ b. b.digest) (block_at kept source k) None
 
--- the places of a block's events in a list, ascending, where the first of the list stands at i
+-- the places of a block's events in a list of arrivals, ascending, where its first stands at i
 abbrev pub places_from : ℕ → List EventValue → List ℕ → ℕ → List ℕ
 places_from i [] source k = []
 places_from i (e ∷ A) source k =
     if is_in_block source k e then i ∷ places_from (i + 1) A source k
     else places_from (i + 1) A source k
 
--- where in a list the events of a block stand: ascending, the first place is 0
+-- where in a list of arrivals the events of a block stand: ascending, the first place is 0
 abbrev pub places_of : List EventValue → List ℕ → ℕ → List ℕ
 places_of A source k = places_from 0 A source k
 
@@ -64,7 +64,7 @@ abbrev pub HasDigestsOf : List EventValue → KeptBlocks → Type 0
 HasDigestsOf A kept = (source : List ℕ) (k : ℕ)
     → digest_kept kept source k ≡ digest_in (set_of A) source k
 
--- the event stands at the place, its block is stale, and the other blocks are as they were
+-- the event stands at the place, its block's digest is stale, and the other blocks are as they were
 abbrev pub IsNoted : EventValue → ℕ → KeptBlocks → KeptBlocks → Type 0
 IsNoted e place old new = (source : List ℕ) (k : ℕ)
     → (places_at new source k
@@ -73,8 +73,8 @@ IsNoted e place old new = (source : List ℕ) (k : ℕ)
     × (digest_kept new source k
     ≡ (if is_in_block source k e then None else digest_kept old source k))
 
--- the place that was noted last for the event's block is gone, the block is stale, and the other
--- blocks are as they were
+-- the place that was noted last for the event's block is gone, the block's digest is stale, and the
+-- other blocks are as they were
 abbrev pub IsForgotten : EventValue → KeptBlocks → KeptBlocks → Type 0
 IsForgotten e old new = (source : List ℕ) (k : ℕ)
     → (places_at new source k
@@ -84,12 +84,12 @@ IsForgotten e old new = (source : List ℕ) (k : ℕ)
     × (digest_kept new source k
     ≡ (if is_in_block source k e then None else digest_kept old source k))
 
--- the same places and digests
+-- the blocks have the same places and digests
 abbrev pub KeepsDigests : KeptBlocks → KeptBlocks → Type 0
 KeepsDigests old new = (source : List ℕ) (k : ℕ) → (places_at new source k ≡ places_at old source k)
     × (digest_kept new source k ≡ digest_kept old source k)
 
--- a map by source and number of a block, as it is iterated
+-- a map of digests by source and number of a block, as it is iterated
 abbrev pub DigestMap : Type 0 → Type 0
 DigestMap Y = BTreeMap (String Y) (BTreeMap ℕ (List ℕ))
 

@@ -13,10 +13,10 @@ is_missing_at E F source n =
     not (has_number F source n)
     || not (is_one_digest (digest_in F source (block_of n)) (digest_in E source (block_of n)))
 
--- whether the event has a number for which that is so
+-- whether the event has a number that F misses, or whose block has another digest there
 abbrev pub is_missing : List EventValue → List EventValue → EventValue → Bool
 is_missing E F e = option_map_or (is_missing_at E F (source_of e)) (number_of e) false
 
--- the events of E that F lacks, by numbers and digests
+-- the events of E that F lacks, by numbers and digests of blocks
 abbrev pub lacking : List EventValue → List EventValue → List EventValue
 lacking E F = filter (is_missing E F) E

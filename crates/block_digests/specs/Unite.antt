@@ -8,7 +8,7 @@ use Rattle.block_digests.specs.Block.{block_text}
 use Rattle.block_digests.specs.Lacking.{lacking}
 use Rattle.block_digests.specs.Number.{HaveEachNumber}
 
--- the set F, with what it lacks of E
+-- the set F, with what it lacks of E by digests of blocks
 abbrev pub told : List EventValue → List EventValue → List EventValue
 told E F = union F (lacking E F)
 
@@ -19,7 +19,7 @@ pub record Collide (E F : List EventValue) : Type 0 where
   pub different : block_text E source block ≢ block_text F source block
   pub digest : sha256 (block_text E source block) ≡ sha256 (block_text F source block)
 
--- F is told what it lacks of E, then E what it lacks of that: both are the union of the two
+-- F is told what it lacks of E by digests, then E what it lacks of that: both are their union
 pub record Unite (E F : List EventValue) : Type 0 where
   pub first : told E F ≡ union E F
   pub second : told (told E F) E ≡ union E F

@@ -10,7 +10,7 @@ use inbox::Inbox;
 pub trait Arrivals {
     ghost arrivals: { Self → List EventValue };
 
-    /// The event at a place, from 0 on, where there is one.
+    /// For block digests: the event at a place of those that came, from 0 on, if there is one.
     fn arrival(&self, place: u64) -> Option<&Sequenced>
         ensures { option_copied result ≡ slice_get (arrivals self.now) place };
 }

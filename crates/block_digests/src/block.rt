@@ -19,14 +19,14 @@ pub fn block_of(number: Sequence) -> u64
     number.number() / 1024
 }
 
-/// Whether an event has the source, and a number of the block.
+/// Whether an event has the block's source, and a number of the block.
 fn is_in_block(event: &Sequenced, source: &str, k: u64) -> bool
     ensures { result ≡ spec.is_in_block source.now k event.now }
 {
     event.event().source() == source && block_of(event.number()) == k
 }
 
-/// Whether one of the events stands in the block.
+/// Whether one of the events stands in the block of a source.
 fn has_block(events: &Batch, source: &str, k: u64) -> bool
     ensures { result ≡ spec.has_block events.now source.now k }
 {
@@ -38,7 +38,7 @@ fn has_block(events: &Batch, source: &str, k: u64) -> bool
     false
 }
 
-/// The numbers and texts of the events of a block, in order, each once.
+/// The numbers and texts of the events of a block of a source, in order, each once.
 fn rows<'a>(
     alloc: Global,
     events: &'a Batch,
@@ -58,7 +58,7 @@ fn rows<'a>(
     Ok(set)
 }
 
-/// The SHA-256 of the texts of rows, each followed by a line feed. Takes no memory.
+/// A block's digest: SHA-256 of the texts of rows, each followed by a line feed. Takes no memory.
 pub(crate) fn digest_of_rows(rows: &BTreeSet<(u64, &str)>) -> [u8; 32]
     ensures { result ≡ sha256 (joined (map (λ r. (r.0, r.1.now)) rows.now.keys)) }
 {

@@ -65,7 +65,7 @@ impl Model for Blocks {
     ghost invariant = { λ s. IsIndex s.index (vec_len s.blocks) };
 }
 
-/// The numbers and texts of the events at places, in order, each once.
+/// The numbers and texts of a block's events at places, in order, each once.
 fn rows_at<'a, E: Arrivals>(
     alloc: Global,
     events: &'a E,
@@ -83,7 +83,7 @@ fn rows_at<'a, E: Arrivals>(
     Ok(set)
 }
 
-/// Whether events stand at both places, the first before the second by number and then text.
+/// Whether a block's events stand at both places, the first before the second by number, then text.
 fn is_rise<E: Arrivals>(events: &E, first: u64, second: u64) -> bool
     ensures { result ≡ is_rise (E.arrivals events.now) first second }
 {
@@ -97,7 +97,7 @@ fn is_rise<E: Arrivals>(events: &E, first: u64, second: u64) -> bool
     low < high || low == high && lower.event().text() < upper.event().text()
 }
 
-/// Whether the events at places rise by number and then text, as those do that come as their
+/// Whether a block's events at places rise by number and then text, as those do that come as their
 /// producer wrote them. It takes no memory; most events cost a look at their number.
 fn are_rising<E: Arrivals>(events: &E, places: &[u64]) -> bool
     ensures { result ≡ true → IsStrictlySortedBy line_cmp
@@ -111,7 +111,7 @@ fn are_rising<E: Arrivals>(events: &E, places: &[u64]) -> bool
     true
 }
 
-/// The SHA-256 of the texts of the events at places, each followed by a line feed. Takes no memory.
+/// A block's digest: SHA-256 of the texts at places, each followed by a line feed. Takes no memory.
 fn digest_as_they_stand<E: Arrivals>(events: &E, places: &[u64]) -> [u8; 32]
     ensures { result ≡ sha256 (lines (events_at (E.arrivals events.now) places.now)) }
 {
@@ -126,7 +126,7 @@ fn digest_as_they_stand<E: Arrivals>(events: &E, places: &[u64]) -> [u8; 32]
 }
 
 impl Block {
-    /// No places.
+    /// A block without places of events.
     fn empty(alloc: Global) -> Block
         ensures places { result.places ≡ [] }
         ensures digest { result.digest ≡ None }
@@ -137,7 +137,7 @@ impl Block {
         }
     }
 
-    /// One place more, by which the block is stale.
+    /// Adds a place of an event to the block, by which its digest is stale.
     fn add(&mut self, place: u64) -> Result<(), AllocError>
         ensures places { OnOk result (self.new.places ≡ self.old.places ++ place ∷ []) }
         ensures digest { OnOk result (self.new.digest ≡ None) }
@@ -148,7 +148,7 @@ impl Block {
         Ok(())
     }
 
-    /// Without the last place, by which the block is stale.
+    /// The block without its last place, by which its digest is stale.
     fn remove(&mut self)
         ensures places { self.new.places
             ≡ take (length self.old.places - 1) self.old.places }
@@ -158,7 +158,7 @@ impl Block {
         self.digest = None;
     }
 
-    /// The digest, which is made where it is stale, unless there are no places.
+    /// The block's digest, which is made where it is stale, unless there are no places.
     fn digest<E: Arrivals>(&self, alloc: Global, events: &E) -> Result<Option<[u8; 32]>, AllocError>
         ensures { IfOk result (λ d. d ≡ fresh_digest (E.arrivals events.now) self.now) }
     {
@@ -175,7 +175,7 @@ impl Block {
         Ok(Some(digest_of_rows(&rows)))
     }
 
-    /// Makes the digest where it is stale, unless there are no places.
+    /// Makes the block's digest where it is stale, unless there are no places.
     fn mend<E: Arrivals>(&mut self, alloc: Global, events: &E) -> Result<(), AllocError>
         ensures ok { OnOk result (self.new ≡ mended (E.arrivals events.now) self.old) }
         ensures err { OnErr result (self.new ≡ self.old) }
@@ -185,7 +185,7 @@ impl Block {
     }
 }
 
-/// Where a block of a source stands.
+/// Where a block of a source stands among those that are kept with digests.
 fn position(index: &BTreeMap<String, BTreeMap<u64, u64>>, source: &str, k: u64) -> Option<u64>
     ensures { result ≡ position index.now source.now k }
 {
@@ -195,7 +195,7 @@ fn position(index: &BTreeMap<String, BTreeMap<u64, u64>>, source: &str, k: u64) 
     }
 }
 
-/// Says where a block of a source stands from now on.
+/// Says where a block of a source, kept with its digest, stands from now on.
 fn insert_position(
     alloc: Global,
     index: &mut BTreeMap<String, BTreeMap<u64, u64>>,
@@ -219,7 +219,7 @@ fn insert_position(
     Ok(())
 }
 
-/// Where a block of a source stands, which is made where it isn't there.
+/// Where a block of a source stands among those kept with digests; made where it isn't there.
 fn find_or_make(
     alloc: Global,
     index: &mut BTreeMap<String, BTreeMap<u64, u64>>,
@@ -288,7 +288,7 @@ fn digests_in<E: Arrivals>(
     Ok(digests)
 }
 
-/// Makes the digest of each block that is stale and has places.
+/// Makes the digest of each block that is stale and has places of events.
 fn mend_all<E: Arrivals>(
     alloc: Global,
     blocks: &mut Vec<Block>,
@@ -306,7 +306,7 @@ fn mend_all<E: Arrivals>(
 }
 
 impl Blocks {
-    /// The blocks of no events. It takes no memory.
+    /// The blocks of no events, and no digests. It takes no memory.
     pub fn empty(alloc: Global) -> Blocks
         ensures kept { IsKeptOf [] result }
         ensures digests { HasDigestsOf [] result }
@@ -318,12 +318,12 @@ impl Blocks {
         }
     }
 
-    /// The allocator that its memory comes from.
+    /// The allocator that the memory of the blocks' digests comes from.
     pub fn allocator(&self) -> Global {
         self.alloc
     }
 
-    /// How many blocks are kept. There may be some without places.
+    /// How many blocks are kept with digests. There may be some without places of events.
     pub fn len(&self) -> u64
         ensures { result ≡ length self.now.blocks }
     {
@@ -339,9 +339,9 @@ impl Blocks {
         &self.blocks[i as usize].places
     }
 
-    /// The event that came stands at the place, behind all that came before: its block is stale
-    /// from now on, and the digests of the others stay. Time logarithmic in the sources and in the
-    /// blocks of the source; a source is copied where it is new.
+    /// The event that came stands at the place, behind all that came before: its block's digest is
+    /// stale from now on, and the digests of the others stay. Time logarithmic in the sources and
+    /// in the blocks of the source; a source is copied where it is new.
     pub fn note(&mut self, event: &Sequenced, place: u64) -> Result<(), AllocError>
         ensures noted { OnOk result (IsNoted event.now place self.old self.new) }
         ensures kept { (A : List EventValue) → AreEvents A → IsKeptOf A self.old
@@ -360,8 +360,8 @@ impl Blocks {
         self.blocks[i as usize].add(place)
     }
 
-    /// Takes back the last `note`, which was of this event, where it has come to nothing. It takes
-    /// no memory. Time logarithmic in the sources and in the blocks of the source.
+    /// Takes back the last `note` of a block's event, this one, where it has come to nothing. It
+    /// takes no memory. Time logarithmic in the sources and in the blocks of the source.
     pub fn forget(&mut self, event: &Sequenced)
         ensures forgotten { IsForgotten event.now self.old self.new }
         ensures kept { (A : List EventValue) → AreEvents A → has key_cmp A event.now ≡ false

@@ -7,7 +7,7 @@ use Rattle.command_words.specs.declared.command.Command.{Command}
 use Rattle.command_words.specs.declared.command.Command.TheVariants.{Arrivals, Ask, Check, Combine, Delta, Follow, Number, Order, Part, Relay, Run, Scrub, Service, Summary, Take}
 use Rattle.views.specs.declared.query.Query.TheVariants.{Conflicts, Cover, Days, Gaps, Kinds, Latest, Shown}
 
--- the word of a command
+-- the word of a command on the command line
 abbrev pub word_of : Command → List ℕ
 word_of (Ask Cover) = codes "cover"
 word_of (Ask Gaps) = codes "gaps"
@@ -33,47 +33,47 @@ word_of Combine = codes "combine"
 
 -- ---- the arguments
 
--- a word at its place, required
+-- clap's rule for a word of the command line at its place, required
 abbrev pub place_rule : List ℕ → Rule
 place_rule id = record (new_rule id) { value_names = 1; required = true }
 
--- `FILE..`, one or more
+-- clap's rule for `FILE..`, one or more
 abbrev pub files_rule : Rule
 files_rule = record (place_rule (codes "file")) { action = Some Append }
 
--- `FILE..`, or none
+-- clap's rule for `FILE..`, or none
 abbrev pub question_files_rule : Rule
 question_files_rule = record (new_rule (codes "file")) { value_names = 1; action = Some Append }
 
--- `FILE`, standard input where it isn't given
+-- clap's rule for `FILE`, standard input where it isn't given
 abbrev pub lines_rule : Rule
 lines_rule = record (new_rule (codes "file")) { value_names = 1; defaults = codes "-" ∷ [] }
 
--- `--NAME VALUE`
+-- clap's rule for `--NAME VALUE`
 abbrev pub option_rule : List ℕ → Rule
 option_rule name = record (new_rule name) { long = Some name; value_names = 1 }
 
--- `--cover FILE`, any number of times
+-- clap's rule for `--cover FILE`, any number of times
 abbrev pub covers_rule : Rule
 covers_rule = record (option_rule (codes "cover")) { action = Some Append }
 
--- `--NAME VALUE`, required
+-- clap's rule for `--NAME VALUE`, required
 abbrev pub needed_rule : List ℕ → Rule
 needed_rule name = record (option_rule name) { required = true }
 
--- `--NAME`
+-- clap's rule for `--NAME`
 abbrev pub flag_rule : List ℕ → Rule
 flag_rule name = record (new_rule name) { long = Some name; action = Some SetTrue }
 
--- `--NAME VALUE`, with this value where it isn't given
+-- clap's rule for `--NAME VALUE`, with this value where it isn't given
 abbrev pub default_rule : List ℕ → List ℕ → Rule
 default_rule name value = record (option_rule name) { defaults = value ∷ [] }
 
--- `--from N`, from the beginning where it isn't given
+-- clap's rule for `--from N`, from the beginning where it isn't given
 abbrev pub from_rule : Rule
 from_rule = default_rule (codes "from") (codes "0")
 
--- `--wait SECONDS`, no time where it isn't given
+-- clap's rule for `--wait SECONDS`, no time where it isn't given
 abbrev pub wait_rule : Rule
 wait_rule = default_rule (codes "wait") (codes "0")
 
@@ -84,16 +84,16 @@ abbrev pub app_in : {E : Type 0} → Result clap.Command E → App
 app_in (Ok built) = app_of built
 app_in (Err e) = new_app []
 
--- the command's word, and `--db DB`
+-- clap's rule for the command's word, and `--db DB`
 abbrev pub with_db : Command → App
 with_db command = with_rule (new_app (word_of command)) (needed_rule (codes "db"))
 
--- the command's word, `--db DB` or none, `--lines`, and `FILE..` or none
+-- clap's rule for the command's word, `--db DB` or none, `--lines`, and `FILE..` or none
 abbrev pub with_any : Command → App
 with_any command = with_rule (with_rule (with_rule (new_app (word_of command))
     (option_rule (codes "db"))) (flag_rule (codes "lines"))) question_files_rule
 
--- a command's word and the arguments that not every one has
+-- clap's rule for a command's word and the arguments that not every one has
 abbrev pub own_app : Command → App
 own_app (Ask query) = with_any (Ask query)
 own_app Check = with_rule (with_rule (with_rule (with_rule (new_app (word_of Check))
@@ -124,6 +124,6 @@ own_app Part = with_rule (with_rule (with_rule (with_rule (with_rule (new_app (w
 own_app Combine = with_rule (with_rule (with_rule (new_app (word_of Combine)) covers_rule)
     (place_rule (codes "question"))) files_rule
 
--- a command's word and its arguments
+-- clap's rule for a command's word and its arguments
 abbrev pub app_for : Command → App
 app_for command = with_rule (own_app command) wait_rule

@@ -6,7 +6,7 @@ ghost use Rattle.command_words.specs.Commands.{covers_rule, default_rule, files_
 use clap::{Arg, ArgAction};
 use std::alloc::Global;
 
-/// `FILE..`, one or more.
+/// `FILE..` of the command line, one or more.
 pub fn files<'a>(alloc: Global) -> Arg<'a>
     ensures rule { rule_of result ≡ files_rule }
     ensures local { result.global ≡ false }
@@ -18,7 +18,7 @@ pub fn files<'a>(alloc: Global) -> Arg<'a>
         .required(true)
 }
 
-/// `FILE..`, one or more, whose events all have numbers.
+/// `FILE..` of the command line, one or more, whose events all have numbers.
 pub fn numbered_files<'a>(alloc: Global) -> Arg<'a>
     ensures rule { rule_of result ≡ files_rule }
     ensures local { result.global ≡ false }
@@ -32,7 +32,7 @@ pub fn numbered_files<'a>(alloc: Global) -> Arg<'a>
         .required(true)
 }
 
-/// `FILE..`, which a question over a database may have none of.
+/// `FILE..` of the command line, which a question over a database may have none of.
 pub fn question_files<'a>(alloc: Global) -> Arg<'a>
     ensures rule { rule_of result ≡ question_files_rule }
     ensures local { result.global ≡ false }
@@ -43,7 +43,7 @@ pub fn question_files<'a>(alloc: Global) -> Arg<'a>
         .action(ArgAction::Append)
 }
 
-/// `FILE`, standard input where it isn't given.
+/// `FILE` of the command line, standard input where it isn't given.
 pub fn lines<'a>(alloc: Global) -> Arg<'a>
     ensures rule { rule_of result ≡ lines_rule }
     ensures local { result.global ≡ false }
@@ -54,7 +54,7 @@ pub fn lines<'a>(alloc: Global) -> Arg<'a>
         .default_value("-")
 }
 
-/// `--db DB` of a command that only reads.
+/// `--db DB` of the command line, of a command that only reads.
 pub fn read_db<'a>(alloc: Global) -> Arg<'a>
     ensures rule { rule_of result ≡ needed_rule (codes "db") }
     ensures local { result.global ≡ false }
@@ -66,7 +66,7 @@ pub fn read_db<'a>(alloc: Global) -> Arg<'a>
         .required(true)
 }
 
-/// `--db DB` of a question.
+/// `--db DB` of the command line, of a question.
 pub fn question_db<'a>(alloc: Global) -> Arg<'a>
     ensures rule { rule_of result ≡ option_rule (codes "db") }
     ensures local { result.global ≡ false }
@@ -76,7 +76,7 @@ pub fn question_db<'a>(alloc: Global) -> Arg<'a>
     )
 }
 
-/// `--db DB` of a check.
+/// `--db DB` of the command line, of a check.
 pub fn checked_db<'a>(alloc: Global) -> Arg<'a>
     ensures rule { rule_of result ≡ option_rule (codes "db") }
     ensures local { result.global ≡ false }
@@ -86,7 +86,7 @@ pub fn checked_db<'a>(alloc: Global) -> Arg<'a>
     )
 }
 
-/// `FILE..`, whose events all have numbers, and which a check of a database may have none of.
+/// `FILE..` of a command line, whose events all have numbers; a check of a database may have none.
 pub fn checked_files<'a>(alloc: Global) -> Arg<'a>
     ensures rule { rule_of result ≡ question_files_rule }
     ensures local { result.global ≡ false }
@@ -99,7 +99,7 @@ pub fn checked_files<'a>(alloc: Global) -> Arg<'a>
         .action(ArgAction::Append)
 }
 
-/// `--numbers`
+/// The argument `--numbers` of the command line.
 pub fn for_number<'a>(alloc: Global) -> Arg<'a>
     ensures rule { rule_of result ≡ flag_rule (codes "numbers") }
     ensures local { result.global ≡ false }
@@ -110,7 +110,7 @@ pub fn for_number<'a>(alloc: Global) -> Arg<'a>
         .action(ArgAction::SetTrue)
 }
 
-/// `--lines`
+/// The argument `--lines` of the command line.
 pub fn by_line<'a>(alloc: Global) -> Arg<'a>
     ensures rule { rule_of result ≡ flag_rule (codes "lines") }
     ensures local { result.global ≡ false }
@@ -121,7 +121,7 @@ pub fn by_line<'a>(alloc: Global) -> Arg<'a>
         .action(ArgAction::SetTrue)
 }
 
-/// `--all`
+/// The argument `--all` of the command line.
 pub fn all<'a>(alloc: Global) -> Arg<'a>
     ensures rule { rule_of result ≡ flag_rule (codes "all") }
     ensures local { result.global ≡ false }
@@ -132,7 +132,7 @@ pub fn all<'a>(alloc: Global) -> Arg<'a>
         .action(ArgAction::SetTrue)
 }
 
-/// `--db DB`
+/// The argument `--db DB` of the command line.
 pub fn db<'a>(alloc: Global) -> Arg<'a>
     ensures rule { rule_of result ≡ needed_rule (codes "db") }
     ensures local { result.global ≡ false }
@@ -144,7 +144,7 @@ pub fn db<'a>(alloc: Global) -> Arg<'a>
         .required(true)
 }
 
-/// `--db DB` of a command that prints one page or all.
+/// `--db DB` of the command line, of a command that prints one page or all.
 pub fn paged_db<'a>(alloc: Global) -> Arg<'a>
     ensures rule { rule_of result ≡ needed_rule (codes "db") }
     ensures local { result.global ≡ false }
@@ -158,7 +158,7 @@ pub fn paged_db<'a>(alloc: Global) -> Arg<'a>
         .required(true)
 }
 
-/// `--from N`
+/// The argument `--from N` of the command line.
 pub fn from<'a>(alloc: Global) -> Arg<'a>
     ensures rule { rule_of result ≡ from_rule }
     ensures local { result.global ≡ false }
@@ -170,7 +170,7 @@ pub fn from<'a>(alloc: Global) -> Arg<'a>
         .default_value("0")
 }
 
-/// `SUMMARY`
+/// The argument `SUMMARY` of the command line.
 pub fn summary<'a>(alloc: Global) -> Arg<'a>
     ensures rule { rule_of result ≡ place_rule (codes "summary") }
     ensures local { result.global ≡ false }
@@ -183,7 +183,7 @@ pub fn summary<'a>(alloc: Global) -> Arg<'a>
         .required(true)
 }
 
-/// `--peer FILE`
+/// The argument `--peer FILE` of the command line.
 pub fn peer<'a>(alloc: Global) -> Arg<'a>
     ensures rule { rule_of result ≡ option_rule (codes "peer") }
     ensures local { result.global ≡ false }
@@ -194,7 +194,7 @@ pub fn peer<'a>(alloc: Global) -> Arg<'a>
         .help("A file with another site's events; - is standard input")
 }
 
-/// `--source S`
+/// The argument `--source S` of the command line.
 pub fn source<'a>(alloc: Global) -> Arg<'a>
     ensures rule { rule_of result ≡ default_rule (codes "source") (codes "/orders") }
     ensures local { result.global ≡ false }
@@ -206,7 +206,7 @@ pub fn source<'a>(alloc: Global) -> Arg<'a>
         .default_value("/orders")
 }
 
-/// `--base N`
+/// The argument `--base N` of the command line.
 pub fn base<'a>(alloc: Global) -> Arg<'a>
     ensures rule { rule_of result ≡ option_rule (codes "base") }
     ensures local { result.global ≡ false }
@@ -216,7 +216,7 @@ pub fn base<'a>(alloc: Global) -> Arg<'a>
     )
 }
 
-/// `--at TIME`
+/// The argument `--at TIME` of the command line.
 pub fn at<'a>(alloc: Global) -> Arg<'a>
     ensures rule { rule_of result ≡ needed_rule (codes "at") }
     ensures local { result.global ≡ false }
@@ -228,7 +228,7 @@ pub fn at<'a>(alloc: Global) -> Arg<'a>
         .required(true)
 }
 
-/// `ACTION`
+/// The argument `ACTION` of the command line.
 pub fn action<'a>(alloc: Global) -> Arg<'a>
     ensures rule { rule_of result ≡ place_rule (codes "action") }
     ensures local { result.global ≡ false }
@@ -239,7 +239,7 @@ pub fn action<'a>(alloc: Global) -> Arg<'a>
         .required(true)
 }
 
-/// `ORDER`
+/// The argument `ORDER` of the command line.
 pub fn order<'a>(alloc: Global) -> Arg<'a>
     ensures rule { rule_of result ≡ place_rule (codes "order") }
     ensures local { result.global ≡ false }
@@ -250,7 +250,7 @@ pub fn order<'a>(alloc: Global) -> Arg<'a>
         .required(true)
 }
 
-/// `--after N`
+/// The argument `--after N` of the command line.
 pub fn after<'a>(alloc: Global) -> Arg<'a>
     ensures rule { rule_of result ≡ needed_rule (codes "after") }
     ensures local { result.global ≡ false }
@@ -262,7 +262,7 @@ pub fn after<'a>(alloc: Global) -> Arg<'a>
         .required(true)
 }
 
-/// `--after N` of events that came.
+/// `--after N` of the command line, of events that came.
 pub fn arrived<'a>(alloc: Global) -> Arg<'a>
     ensures rule { rule_of result ≡ needed_rule (codes "after") }
     ensures local { result.global ≡ false }
@@ -274,7 +274,7 @@ pub fn arrived<'a>(alloc: Global) -> Arg<'a>
         .required(true)
 }
 
-/// `--db NUMBERS`
+/// The argument `--db NUMBERS` of the command line.
 pub fn numbers_db<'a>(alloc: Global) -> Arg<'a>
     ensures rule { rule_of result ≡ needed_rule (codes "db") }
     ensures local { result.global ≡ false }
@@ -288,7 +288,7 @@ pub fn numbers_db<'a>(alloc: Global) -> Arg<'a>
         .required(true)
 }
 
-/// `--aside NAME`
+/// The argument `--aside NAME` of the command line.
 pub fn aside<'a>(alloc: Global) -> Arg<'a>
     ensures rule { rule_of result ≡ option_rule (codes "aside") }
     ensures local { result.global ≡ false }
@@ -301,7 +301,7 @@ pub fn aside<'a>(alloc: Global) -> Arg<'a>
         )
 }
 
-/// `--base N` of numbers.
+/// `--base N` of the command line, of numbers.
 pub fn numbers_base<'a>(alloc: Global) -> Arg<'a>
     ensures rule { rule_of result ≡ default_rule (codes "base") (codes "0") }
     ensures local { result.global ≡ false }
@@ -313,7 +313,7 @@ pub fn numbers_base<'a>(alloc: Global) -> Arg<'a>
         .default_value("0")
 }
 
-/// `--cover FILE`, one a part.
+/// `--cover FILE` of the command line, one a part.
 pub fn covers<'a>(alloc: Global) -> Arg<'a>
     ensures rule { rule_of result ≡ covers_rule }
     ensures local { result.global ≡ false }
@@ -327,7 +327,7 @@ pub fn covers<'a>(alloc: Global) -> Arg<'a>
         .action(ArgAction::Append)
 }
 
-/// `QUESTION`
+/// The argument `QUESTION` of the command line.
 pub fn question<'a>(alloc: Global) -> Arg<'a>
     ensures rule { rule_of result ≡ place_rule (codes "question") }
     ensures local { result.global ≡ false }
@@ -338,7 +338,7 @@ pub fn question<'a>(alloc: Global) -> Arg<'a>
         .required(true)
 }
 
-/// `FILE..` of answers.
+/// `FILE..` of the command line, of answers.
 pub fn answers<'a>(alloc: Global) -> Arg<'a>
     ensures rule { rule_of result ≡ files_rule }
     ensures local { result.global ≡ false }
@@ -350,7 +350,7 @@ pub fn answers<'a>(alloc: Global) -> Arg<'a>
         .required(true)
 }
 
-/// `--of N`
+/// The argument `--of N` of the command line.
 pub fn part_count<'a>(alloc: Global) -> Arg<'a>
     ensures rule { rule_of result ≡ needed_rule (codes "of") }
     ensures local { result.global ≡ false }
@@ -362,7 +362,7 @@ pub fn part_count<'a>(alloc: Global) -> Arg<'a>
         .required(true)
 }
 
-/// `--part I`
+/// The argument `--part I` of the command line.
 pub fn part<'a>(alloc: Global) -> Arg<'a>
     ensures rule { rule_of result ≡ option_rule (codes "part") }
     ensures local { result.global ≡ false }
@@ -373,7 +373,7 @@ pub fn part<'a>(alloc: Global) -> Arg<'a>
         .help("The part whose events are printed as a batch, from 0")
 }
 
-/// `--into PREFIX`
+/// The argument `--into PREFIX` of the command line.
 pub fn into<'a>(alloc: Global) -> Arg<'a>
     ensures rule { rule_of result ≡ option_rule (codes "into") }
     ensures local { result.global ≡ false }
@@ -386,7 +386,7 @@ pub fn into<'a>(alloc: Global) -> Arg<'a>
         )
 }
 
-/// `--wait SECONDS`
+/// The argument `--wait SECONDS` of the command line.
 pub fn wait<'a>(alloc: Global) -> Arg<'a>
     ensures rule { rule_of result ≡ wait_rule }
     ensures local { result.global ≡ false }

@@ -1,5 +1,5 @@
 //! The table of the commands: their words, their help lines and their arguments.
-ghost use Rattle.std.specs.Prelude.{◌≡◌, ℕ, IfOk, IfSome, IsNone, IsOk, IsTrue, Some, false, slice_get, ◌≢◌, ◌↔◌};
+ghost use Rattle.std.specs.Prelude.{◌≡◌, ℕ, IfOk, IfSome, IsNone, IsOk, Some, false, slice_get, ◌≢◌};
 ghost use Rattle.clap.specs.Words.{app_of, new_app, rule_of, with_rule};
 ghost use Rattle.command_words.specs.Commands.{app_for, app_in, own_app, word_of};
 ghost use Rattle.command_words.specs.declared.command.Command.{Command};
@@ -79,7 +79,7 @@ pub static COMMANDS: [Command; 21] = [
 ];
 
 impl Command {
-    /// The command of a word.
+    /// The command of a word of the command line.
     pub fn of_word(word: &str) -> Option<Command>
         ensures some { IfSome result (λ command. word_of command ≡ word.now) }
         ensures none { IsNone result → (command : Command) → word_of command ≢ word.now }
@@ -87,14 +87,7 @@ impl Command {
         named(&COMMANDS, word)
     }
 
-    /// Whether it is the command of this word.
-    fn has_word(self, word: &str) -> bool
-        ensures { IsTrue result ↔ (word_of self ≡ word.now) }
-    {
-        self.word() == word
-    }
-
-    /// The first word behind the program's name.
+    /// A command's word on the command line: the first behind the program's name.
     fn word<'a>(self) -> &'a str
         ensures { result.now ≡ word_of self }
     {
@@ -123,7 +116,7 @@ impl Command {
         }
     }
 
-    /// The word with the program's name before it, for the usage.
+    /// The command's word with the program's name before it, for the usage in its help.
     fn full_name<'a>(self) -> &'a str {
         match self {
             Command::Ask(Query::Cover) => "site cover",
@@ -150,7 +143,7 @@ impl Command {
         }
     }
 
-    /// One line on what the command prints.
+    /// One line of help on what the command prints.
     fn about<'a>(self) -> &'a str {
         match self {
             Command::Ask(Query::Cover) =>
@@ -196,14 +189,14 @@ impl Command {
         }
     }
 
-    /// The command as clap reads it.
+    /// The command of the command line as clap reads it.
     pub fn parser<'a>(self, alloc: Global) -> Result<clap::Command<'a>, AllocError>
         ensures { IfOk result (λ parser. app_of parser ≡ app_for self) }
     {
         with(self.own_parser(alloc), wait(alloc))
     }
 
-    /// The command with the arguments that not every one has.
+    /// The command with the arguments of the command line that not every one has.
     fn own_parser<'a>(self, alloc: Global) -> Result<clap::Command<'a>, AllocError>
         ensures { IsOk result → app_in result ≡ own_app self }
     {
@@ -259,7 +252,7 @@ impl Command {
         }
     }
 
-    /// The word with its help line, without arguments.
+    /// The command's word with its help line, without arguments.
     fn bare<'a>(self, alloc: Global) -> Result<clap::Command<'a>, AllocError>
         ensures { IsOk result → app_in result ≡ new_app (word_of self) }
     {
@@ -268,22 +261,23 @@ impl Command {
     }
 }
 
-/// The first of the commands with this word.
-fn named(commands: &[Command], word: &str) -> Option<Command>
+/// The first of the command line's commands with this word.
+fn named<'a>(commands: &[Command], word: &'a str) -> Option<Command>
     ensures some { IfSome result (λ command. word_of command ≡ word.now) }
     ensures none { IsNone result → (i : ℕ) (command : Command)
         → slice_get commands.now i ≡ Some command → word_of command ≢ word.now }
 {
     for i in 0..commands.len() {
         let command = commands[i];
-        if command.has_word(word) {
+        let own: &'a str = command.word();
+        if own == word {
             return Some(command);
         }
     }
     None
 }
 
-/// The command with one more argument, if memory was left so far.
+/// The command with one more argument for clap, if memory was left so far.
 fn with<'a>(
     begun: Result<clap::Command<'a>, AllocError>,
     arg: Arg<'a>,

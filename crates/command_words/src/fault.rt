@@ -17,7 +17,7 @@ pub enum Faulty {
 impl Faulty {
     ghost use Rattle.command_words.specs.Plans.{number_of_reason};
 
-    /// The number of the reason, from 1.
+    /// The number of the reason why words of the command line are faulty, from 1.
     pub fn number(&self) -> u8
         ensures { result ≡ number_of_reason self.now }
     {

@@ -8,7 +8,7 @@ use clap::ArgMatches;
 use clap::parser::ValueSource;
 use std::alloc::{AllocError, Global};
 
-/// The text that was matched for an argument; empty where it wasn't given.
+/// The text that clap matched for an argument; empty where it wasn't given.
 pub fn str_of<'a>(matches: &ArgMatches<'a>, id: &str) -> &'a str
     ensures { result.now ≡ text_in (rows_of (found_of matches.now)) id.now }
 {
@@ -18,14 +18,14 @@ pub fn str_of<'a>(matches: &ArgMatches<'a>, id: &str) -> &'a str
     }
 }
 
-/// The text that was matched for an argument, as a text of its own; empty where it wasn't given.
+/// The text that clap matched for an argument, as a text of its own; empty where it wasn't given.
 pub fn text_of(alloc: Global, matches: &ArgMatches<'_>, id: &str) -> Result<Text, AllocError>
     ensures { IfOk result (λ text. text ≡ text_in (rows_of (found_of matches.now)) id.now) }
 {
     Text::of(alloc, str_of(matches, id))
 }
 
-/// The text that was matched for an argument, as a text of its own; none where it wasn't given.
+/// The text that clap matched for an argument, as a text of its own; none where it wasn't given.
 pub fn given_text_of(
     alloc: Global,
     matches: &ArgMatches<'_>,
@@ -39,7 +39,7 @@ pub fn given_text_of(
     }
 }
 
-/// Whether the words themselves gave the argument, and not its default.
+/// Whether the words of the command line gave the argument themselves, and not its default.
 pub fn is_given(matches: &ArgMatches<'_>, id: &str) -> bool
     ensures { result ≡ is_given (rows_of (found_of matches.now)) id.now }
 {
@@ -50,21 +50,14 @@ pub fn is_given(matches: &ArgMatches<'_>, id: &str) -> bool
     }
 }
 
-/// The texts that were matched for an argument, in their order; none where it wasn't given.
+/// The texts that clap matched for an argument, in their order; none where it wasn't given.
 pub fn texts_of(alloc: Global, matches: &ArgMatches<'_>, id: &str) -> Result<Texts, AllocError>
     ensures { IfOk result (λ texts. texts ≡ texts_in (rows_of (found_of matches.now)) id.now) }
 {
-    match matches.get_strs(id) {
-        Some(values) => to_texts(alloc, values),
-        None => Ok(Texts::empty(alloc)),
-    }
-}
-
-/// The values as texts of their own.
-fn to_texts(alloc: Global, values: &[&str]) -> Result<Texts, AllocError>
-    ensures { IfOk result (λ texts. texts ≡ map (λ s. s.now) values.now) }
-{
     let mut texts = Texts::empty(alloc);
+    let Some(values) = matches.get_strs(id) else {
+        return Ok(texts);
+    };
     for value in values {
         texts.push(Text::of(alloc, value)?)?;
     }

@@ -11,8 +11,8 @@ use clap::Error;
 use clap::error::ErrorKind;
 use std::alloc::{AllocError, Global};
 
-/// The program with all its commands. It reads words whose first is no command, for its help, its
-/// version, and what it says of a word that it doesn't know.
+/// The program with all its commands, as clap reads it. It reads words whose first is no command,
+/// for its help, its version, and what it says of a word that it doesn't know.
 fn program<'a>(alloc: Global) -> Result<clap::Command<'a>, AllocError> {
     let mut program = clap::Command::new(alloc, "site")
         .bin_name("site")?
@@ -44,12 +44,12 @@ pub fn no_command(alloc: Global, words: &[&str]) -> Faulty
     }
 }
 
-/// Whether the word is an option, and none that the program has without a command.
+/// Whether the command line's word is an option, and none that the program has without a command.
 fn is_own_option(word: &str) -> bool {
     word.starts_with("--") && word != "--" && word != "--help" && word != "--version"
 }
 
-/// The place of the first word that is a command, where the words begin with its options.
+/// The place of the command line's first word that is a command, where it begins with its options.
 fn late_command(words: &[&str]) -> Option<usize> {
     let first = words.first()?;
     if !is_own_option(first) {
@@ -60,7 +60,7 @@ fn late_command(words: &[&str]) -> Option<usize> {
         .position(|word| Command::of_word(word).is_some())
 }
 
-/// The words with that at a place as the first.
+/// The words of the command line with that at a place as the first.
 fn words_from(alloc: Global, words: &[&str], place: usize) -> Result<String, AllocError> {
     let mut line = String::new(alloc);
     if let Some(word) = words.get(place) {
@@ -92,7 +92,7 @@ fn command_first(alloc: Global, words: &[&str], place: usize) -> Faulty {
     }
 }
 
-/// The refusal that an error of clap is.
+/// The refusal of faulty words that an error of clap is.
 pub fn faulty_of(alloc: Global, error: Error) -> Faulty
     ensures { Blames (kind_of error ≢ ErrorKind.OutOfMemory) result }
 {

@@ -14,13 +14,13 @@ pub struct Invocation {
 /// What the words ask for: a command, and the values of its arguments.
 #[derive(Drop)]
 pub enum Plan {
-    /// A command that starts no thread.
+    /// Any other command.
     Alone(Alone),
     /// Files taken side by side.
     Run(Run),
 }
 
-/// A command that starts no thread.
+/// A command other than `run`. It waits for no thread; to read files alone it may start some.
 #[derive(Drop)]
 pub enum Alone {
     /// A command with one answer, which is known before anything is written.

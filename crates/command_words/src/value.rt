@@ -25,7 +25,7 @@ const MAX_PARTS: u64 = 65_536;
 /// The most seconds that a database is waited for: a day.
 const MAX_WAIT: u64 = 86_400;
 
-/// The number that at most twenty decimal digits write, where it fits 64 bits.
+/// The number that at most twenty decimal digits of a command line write, where it fits 64 bits.
 fn number_of(text: &str) -> Option<u64>
     ensures some { IfSome result (IsNumber text.now) }
     ensures none { IsNone result → (n : ℕ) → IsNumber text.now n → ⊥ }
@@ -39,7 +39,7 @@ fn number_of(text: &str) -> Option<u64>
     text.parse::<u64>().ok()
 }
 
-/// A number. `name` is that of its argument, for what is said of another text.
+/// A number on the command line. `name` is that of its argument, for what is said of another text.
 pub fn number(alloc: Global, name: &str, text: &str) -> Result<u64, Faulty>
     ensures ok { IfOk result (IsNumber text.now) }
     ensures err { IfErr result (Blames ((n : ℕ) → IsNumber text.now n → ⊥)) }
@@ -50,7 +50,7 @@ pub fn number(alloc: Global, name: &str, text: &str) -> Result<u64, Faulty>
     }
 }
 
-/// The number of an order.
+/// The number of an order on the command line.
 pub fn order_number(alloc: Global, text: &str) -> Result<u64, Faulty>
     ensures ok { IfOk result (IsOrderNumber text.now) }
     ensures err { IfErr result (Blames ((n : ℕ) → IsOrderNumber text.now n → ⊥)) }
@@ -66,7 +66,7 @@ pub fn order_number(alloc: Global, text: &str) -> Result<u64, Faulty>
     }
 }
 
-/// What is said of a text that is no order's number.
+/// What is said of a text on the command line that is no order's number.
 fn no_order(alloc: Global, text: &str) -> Faulty {
     not_allowed(
         alloc,
@@ -76,7 +76,7 @@ fn no_order(alloc: Global, text: &str) -> Faulty {
     )
 }
 
-/// The number before a service's first row, or a source's first event.
+/// The number before a service's first row, or a source's first event, on the command line.
 pub fn base(alloc: Global, text: &str) -> Result<u64, Faulty>
     ensures ok { IfOk result (IsBaseNumber text.now) }
     ensures err { IfErr result (Blames ((n : ℕ) → IsBaseNumber text.now n → ⊥)) }
@@ -92,7 +92,7 @@ pub fn base(alloc: Global, text: &str) -> Result<u64, Faulty>
     }
 }
 
-/// What is said of a text that is no such number.
+/// What is said of a text on the command line that is no such number.
 fn no_base(alloc: Global, text: &str) -> Faulty {
     not_allowed(
         alloc,
@@ -102,7 +102,7 @@ fn no_base(alloc: Global, text: &str) -> Faulty {
     )
 }
 
-/// For how many seconds a database is waited for.
+/// For how many seconds a database is waited for, by the command line.
 pub fn wait(alloc: Global, text: &str) -> Result<u64, Faulty>
     ensures ok { IfOk result (IsWait text.now) }
     ensures err { IfErr result (Blames ((n : ℕ) → IsWait text.now n → ⊥)) }
@@ -118,12 +118,12 @@ pub fn wait(alloc: Global, text: &str) -> Result<u64, Faulty>
     }
 }
 
-/// What is said of a text that is no such number of seconds.
+/// What is said of a text on the command line that is no such number of seconds.
 fn no_wait(alloc: Global, text: &str) -> Faulty {
     not_allowed(alloc, "--wait <SECONDS>", text, "a number from 0 to 86400")
 }
 
-/// What is done with an order.
+/// What is done with an order, by a word of the command line.
 pub fn action(alloc: Global, text: &str) -> Result<Action, Faulty>
     ensures ok { IfOk result (λ action. text.now ≡ action_word action) }
     ensures err { IfErr result (Blames ((action : Action) → text.now ≢ action_word action)) }
@@ -136,7 +136,7 @@ pub fn action(alloc: Global, text: &str) -> Result<Action, Faulty>
     }
 }
 
-/// What the parts of a region were asked.
+/// What the parts of a region were asked, by a word of the command line.
 pub fn question(alloc: Global, text: &str) -> Result<Query, Faulty>
     ensures ok { IfOk result (λ query. text.now ≡ word_of (command.Ask query)) }
     ensures err { IfErr result (Blames ((query : Query) → text.now ≢ word_of (command.Ask query))) }
@@ -158,7 +158,7 @@ pub fn question(alloc: Global, text: &str) -> Result<Query, Faulty>
     }
 }
 
-/// How many parts a region has.
+/// How many parts a region has, by the command line.
 pub fn part_count(alloc: Global, text: &str) -> Result<u64, Faulty>
     ensures ok { IfOk result (IsPartCount text.now) }
     ensures err { IfErr result (Blames ((n : ℕ) → IsPartCount text.now n → ⊥)) }
@@ -174,12 +174,12 @@ pub fn part_count(alloc: Global, text: &str) -> Result<u64, Faulty>
     }
 }
 
-/// What is said of a text that is no such count.
+/// What is said of a text on the command line that is no such count.
 fn no_count(alloc: Global, text: &str) -> Faulty {
     not_allowed(alloc, "--of <N>", text, "a number from 1 to 65536")
 }
 
-/// The number of a part, of so many.
+/// The number of a part, of so many, on the command line.
 pub fn part_number(alloc: Global, text: &str, count: u64) -> Result<u64, Faulty>
     ensures ok { IfOk result (IsPartNumber text.now count) }
     ensures err { IfErr result (Blames ((i : ℕ) → IsPartNumber text.now count i → ⊥)) }
@@ -195,7 +195,7 @@ pub fn part_number(alloc: Global, text: &str, count: u64) -> Result<u64, Faulty>
     }
 }
 
-/// What is said of a text that is the number of no part.
+/// What is said of a text on the command line that is the number of no part.
 fn no_part(alloc: Global, text: &str) -> Faulty {
     not_allowed(
         alloc,
@@ -205,7 +205,7 @@ fn no_part(alloc: Global, text: &str) -> Faulty {
     )
 }
 
-/// The time of a command.
+/// The time of a command on an order, on the command line.
 pub fn time(alloc: Global, text: &str) -> Result<Moment, Faulty>
     ensures ok { IfOk result (λ at. at ≡ text.now) }
     ensures allowed { IfOk result (λ at. IsTime text.now) }
@@ -222,7 +222,7 @@ pub fn time(alloc: Global, text: &str) -> Result<Moment, Faulty>
     }
 }
 
-/// Whether a run may have so many files, with a peer's or without: each has a thread of its own.
+/// Whether a command line's run may have so many files, with a peer's or not: each has a thread.
 pub fn workers(alloc: Global, has_peer: bool, files: u64) -> Result<(), Faulty>
     ensures ok { IfOk result (λ _. AreFew has_peer files) }
     ensures err { IfErr result (Blames (AreFew has_peer files → ⊥)) }
@@ -238,7 +238,7 @@ pub fn workers(alloc: Global, has_peer: bool, files: u64) -> Result<(), Faulty>
     Ok(())
 }
 
-/// What is said of a run of too many files.
+/// What is said of a command line for a run of too many files.
 fn too_many(alloc: Global) -> Faulty {
     said(
         alloc,
@@ -246,7 +246,7 @@ fn too_many(alloc: Global) -> Faulty {
     )
 }
 
-/// Faulty words, of which this is said.
+/// Faulty words of a command line, of which this is said.
 fn said(alloc: Global, what: &str) -> Faulty {
     match Text::of(alloc, what) {
         Ok(text) => Faulty::Words {
@@ -257,7 +257,7 @@ fn said(alloc: Global, what: &str) -> Faulty {
     }
 }
 
-/// What is said of a question or a check without a file and without a database.
+/// What is said of a command line for a question or a check without a file and without a database.
 pub fn no_events(alloc: Global) -> Faulty {
     said(
         alloc,
@@ -265,7 +265,7 @@ pub fn no_events(alloc: Global) -> Faulty {
     )
 }
 
-/// What is said of words that ask for one page and for all.
+/// What is said of words of a command line that ask for one page and for all.
 pub fn both_pages(alloc: Global) -> Faulty {
     said(
         alloc,
@@ -273,7 +273,7 @@ pub fn both_pages(alloc: Global) -> Faulty {
     )
 }
 
-/// What is said of words that ask for one part and for all.
+/// What is said of words of a command line that ask for one part and for all.
 pub fn both_parts(alloc: Global) -> Faulty {
     said(
         alloc,
@@ -281,7 +281,7 @@ pub fn both_parts(alloc: Global) -> Faulty {
     )
 }
 
-/// The source of a service.
+/// The source of a service on the command line.
 pub fn source(alloc: Global, text: &str) -> Result<Text, Faulty>
     ensures ok { IfOk result (λ source. source ≡ text.now) }
     ensures allowed { IfOk result (λ source. IsServiceSource text.now) }
@@ -299,7 +299,7 @@ pub fn source(alloc: Global, text: &str) -> Result<Text, Faulty>
     Ok(source)
 }
 
-/// What is said of a text that its argument doesn't allow.
+/// What is said of a text on the command line that its argument doesn't allow.
 fn not_allowed(alloc: Global, name: &str, text: &str, wanted: &str) -> Faulty {
     let said = format!(in alloc;
         "error: invalid value '{text}' for '{name}': {wanted} is wanted\n\nFor more information, try '--help'.\n"

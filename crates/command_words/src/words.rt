@@ -1,13 +1,10 @@
 //! From the words of the command line to a plan.
 ghost use Rattle.std.specs.Prelude.{◌≡◌, ℕ, IfOk, IfErr, None, Option, Some, codes, map};
 ghost use Rattle.clap.specs.Words.{first_of, found_of, rows_of};
-ghost use Rattle.command_words.specs.Commands.{word_of};
-ghost use Rattle.command_words.specs.Plans.{AreFaulty, IsDatabaseOrFiles, Blames, HasPages, HasRequestOf, HasTextsOf, HasValuesOf, HaveNoInvocation, HaveNoPlan, IsBase, IsInvocation, IsInvocationFor, IsPartWritten, IsPartCount, command_of, text_in};
+ghost use Rattle.command_words.specs.Plans.{AreFaulty, Blames, HasPages, HasRequestOf, HasTextsOf, HaveNoPlan, IsBase, IsInvocation, IsPartWritten, IsPartCount, command_of, text_in};
 ghost use Rattle.command_words.specs.declared.command.Command.TheVariants as command;
 ghost use Rattle.command_words.specs.declared.request.Invocation.{Invocation};
 ghost use Rattle.command_words.specs.declared.request.Pages.{Pages};
-ghost use Rattle.command_words.specs.declared.request.Alone.TheVariants as alone;
-ghost use Rattle.command_words.specs.declared.request.Plan.TheVariants as plan;
 ghost use Rattle.command_words.specs.declared.request.Request.{Request};
 
 use crate::command::Command;
@@ -32,48 +29,29 @@ pub fn invocation(alloc: Global, words: &[Text]) -> Result<Invocation, Faulty>
     ensures ok { IfOk result (IsInvocation words.now) }
     ensures err { IfErr result (Blames (AreFaulty words.now)) }
 {
-    match words.first() {
-        Some(first) => invocation_for(alloc, first.as_str(), words),
-        None => Err(no_command(alloc, &[])),
-    }
-}
-
-/// What the words ask for, the first of which is at hand.
-fn invocation_for(alloc: Global, first: &str, words: &[Text]) -> Result<Invocation, Faulty>
-    ensures ok { IfOk result (λ asked. (word_of (command_of asked.plan) ≡ first.now)
-        × IsInvocationFor words.now (command_of asked.plan) asked) }
-    ensures err { IfErr result (Blames ((asked : Invocation)
-        → first.now ≡ word_of (command_of asked.plan)
-        → IsInvocationFor words.now (command_of asked.plan) asked → ⊥)) }
-{
+    let Some(first) = words.first() else {
+        return Err(no_command(alloc, &[]));
+    };
     let strs = as_strs(alloc, words)?;
-    let Some(command) = Command::of_word(first) else {
+    let Some(command) = Command::of_word(first.as_str()) else {
         return Err(no_command(alloc, strs.as_slice()));
     };
     let parser = command.parser(alloc)?;
-    match parser.try_get_matches_from(strs.as_slice()) {
-        Ok(matches) => timed(alloc, command, &matches),
-        Err(error) => Err(faulty_of(alloc, error)),
-    }
-}
-
-/// The command with the values of its arguments, and how long it waits, which is tested behind them.
-fn timed(alloc: Global, command: Command, matches: &ArgMatches<'_>) -> Result<Invocation, Faulty>
-    ensures command { IfOk result (λ asked. command_of asked.plan ≡ command) }
-    ensures values { IfOk result (HasValuesOf (rows_of (found_of matches.now))) }
-    ensures err { IfErr result
-        (Blames (HaveNoInvocation (rows_of (found_of matches.now)) command)) }
-{
-    match matched(alloc, command, matches) {
-        Ok(plan) => match wait(alloc, str_of(matches, "wait")) {
-            Ok(wait) => Ok(Invocation { plan, wait }),
-            Err(faulty) => Err(faulty),
-        },
+    let matches = match parser.try_get_matches_from(strs.as_slice()) {
+        Ok(matches) => matches,
+        Err(error) => return Err(faulty_of(alloc, error)),
+    };
+    let plan = match matched(alloc, command, &matches) {
+        Ok(plan) => plan,
+        Err(faulty) => return Err(faulty),
+    };
+    match wait(alloc, str_of(&matches, "wait")) {
+        Ok(wait) => Ok(Invocation { plan, wait }),
         Err(faulty) => Err(faulty),
     }
 }
 
-/// The command with the values of its arguments.
+/// The command with the values of its arguments, as clap matched them.
 fn matched(alloc: Global, command: Command, matches: &ArgMatches<'_>) -> Result<Plan, Faulty>
     ensures command { IfOk result (λ plan. command_of plan ≡ command) }
     ensures texts { IfOk result (HasTextsOf (rows_of (found_of matches.now))) }
@@ -87,12 +65,12 @@ fn matched(alloc: Global, command: Command, matches: &ArgMatches<'_>) -> Result<
                 return Err(no_events(alloc));
             }
             let has_lines = is_given(matches, "lines");
-            Ok(once(Once::Ask {
+            Ok(Plan::Alone(Alone::Once(Once::Ask {
                 query,
                 db,
                 files,
                 has_lines,
-            }))
+            })))
         }
         Command::Check => {
             let db = given_text_of(alloc, matches, "db")?;
@@ -111,17 +89,17 @@ fn matched(alloc: Global, command: Command, matches: &ArgMatches<'_>) -> Result<
         }
         Command::Summary => {
             let db = text_of(alloc, matches, "db")?;
-            Ok(once(Once::Summary { db }))
+            Ok(Plan::Alone(Alone::Once(Once::Summary { db })))
         }
         Command::Take => {
             let db = text_of(alloc, matches, "db")?;
             let files = texts_of(alloc, matches, "file")?;
             let has_lines = is_given(matches, "lines");
-            Ok(once(Once::Take {
+            Ok(Plan::Alone(Alone::Once(Once::Take {
                 db,
                 files,
                 has_lines,
-            }))
+            })))
         }
         Command::Follow => {
             let db = text_of(alloc, matches, "db")?;
@@ -132,14 +110,14 @@ fn matched(alloc: Global, command: Command, matches: &ArgMatches<'_>) -> Result<
             let db = text_of(alloc, matches, "db")?;
             let summary = text_of(alloc, matches, "summary")?;
             match pages(alloc, matches) {
-                Ok(pages) => Ok(once(Once::Delta { db, pages, summary })),
+                Ok(pages) => Ok(Plan::Alone(Alone::Once(Once::Delta { db, pages, summary }))),
                 Err(faulty) => Err(faulty),
             }
         }
         Command::Scrub => {
             let db = text_of(alloc, matches, "db")?;
             match pages(alloc, matches) {
-                Ok(pages) => Ok(once(Once::Scrub { db, pages })),
+                Ok(pages) => Ok(Plan::Alone(Alone::Once(Once::Scrub { db, pages }))),
                 Err(faulty) => Err(faulty),
             }
         }
@@ -147,21 +125,21 @@ fn matched(alloc: Global, command: Command, matches: &ArgMatches<'_>) -> Result<
             let db = text_of(alloc, matches, "db")?;
             let is_all = is_given(matches, "all");
             match number(alloc, "--after <N>", str_of(matches, "after")) {
-                Ok(after) => Ok(once(Once::Arrivals { db, after, is_all })),
+                Ok(after) => Ok(Plan::Alone(Alone::Once(Once::Arrivals { db, after, is_all }))),
                 Err(faulty) => Err(faulty),
             }
         }
         Command::Run => run(alloc, matches),
         Command::Service => service(alloc, matches),
         Command::Order => match request(alloc, matches) {
-            Ok(request) => Ok(once(Once::Order(request))),
+            Ok(request) => Ok(Plan::Alone(Alone::Once(Once::Order(request)))),
             Err(faulty) => Err(faulty),
         },
         Command::Relay => {
             let db = text_of(alloc, matches, "db")?;
             let is_all = is_given(matches, "all");
             match number(alloc, "--after <N>", str_of(matches, "after")) {
-                Ok(after) => Ok(once(Once::Relay { db, after, is_all })),
+                Ok(after) => Ok(Plan::Alone(Alone::Once(Once::Relay { db, after, is_all }))),
                 Err(faulty) => Err(faulty),
             }
         }
@@ -195,14 +173,7 @@ fn matched(alloc: Global, command: Command, matches: &ArgMatches<'_>) -> Result<
     }
 }
 
-/// The plan of a command with one answer.
-fn once(command: Once) -> Plan
-    ensures { result ≡ plan.Alone (alone.Once command) }
-{
-    Plan::Alone(Alone::Once(command))
-}
-
-/// Which pages are printed.
+/// Which pages are printed, by the words of the command line.
 fn pages(alloc: Global, matches: &ArgMatches<'_>) -> Result<Pages, Faulty>
     ensures ok { IfOk result (HasPages (rows_of (found_of matches.now))) }
     ensures err { IfErr result (Blames ((p : Pages)
@@ -220,7 +191,7 @@ fn pages(alloc: Global, matches: &ArgMatches<'_>) -> Result<Pages, Faulty>
     Ok(Pages::All)
 }
 
-/// The plan of files that are taken side by side.
+/// The plan of a command line for files that are taken side by side.
 fn run(alloc: Global, matches: &ArgMatches<'_>) -> Result<Plan, Faulty>
     ensures command { IfOk result (λ plan. command_of plan ≡ command.Run) }
     ensures texts { IfOk result (HasTextsOf (rows_of (found_of matches.now))) }
@@ -241,7 +212,7 @@ fn run(alloc: Global, matches: &ArgMatches<'_>) -> Result<Plan, Faulty>
     }
 }
 
-/// The plan of a database's service. Its values are tested in this order: the source, the base.
+/// A command line's plan of a service. Its values are tested in this order: the source, the base.
 fn service(alloc: Global, matches: &ArgMatches<'_>) -> Result<Plan, Faulty>
     ensures command { IfOk result (λ plan. command_of plan ≡ command.Service) }
     ensures texts { IfOk result (HasTextsOf (rows_of (found_of matches.now))) }
@@ -255,17 +226,17 @@ fn service(alloc: Global, matches: &ArgMatches<'_>) -> Result<Plan, Faulty>
     };
     let is_source_named = is_given(matches, "source");
     match given_base(alloc, matches) {
-        Ok(base) => Ok(once(Once::Service {
+        Ok(base) => Ok(Plan::Alone(Alone::Once(Once::Service {
             db,
             source,
             is_source_named,
             base,
-        })),
+        }))),
         Err(faulty) => Err(faulty),
     }
 }
 
-/// The base of a service, where the words gave one.
+/// The base of a service, where the words of the command line gave one.
 fn given_base(alloc: Global, matches: &ArgMatches<'_>) -> Result<Option<u64>, Faulty>
     ensures ok { IfOk result (IsBase (first_of (codes "base") (rows_of (found_of matches.now)))) }
     ensures err { IfErr result (Blames ((b : Option ℕ)
@@ -280,7 +251,7 @@ fn given_base(alloc: Global, matches: &ArgMatches<'_>) -> Result<Option<u64>, Fa
     }
 }
 
-/// The plan of a region's parts: with a prefix they go into files.
+/// The command line's plan of a region's parts: with a prefix they go into files.
 fn part(alloc: Global, matches: &ArgMatches<'_>) -> Result<Plan, Faulty>
     ensures command { IfOk result (λ plan. command_of plan ≡ command.Part) }
     ensures texts { IfOk result (HasTextsOf (rows_of (found_of matches.now))) }
@@ -292,8 +263,8 @@ fn part(alloc: Global, matches: &ArgMatches<'_>) -> Result<Plan, Faulty>
     }
 }
 
-/// The plan of parts that go into files whose names begin with this prefix. That no part is asked
-/// for is tested first, then the count.
+/// The plan of parts that go into files whose names begin with this prefix, by the command line.
+/// That no part is asked for is tested first, then the count.
 fn parts_into(alloc: Global, matches: &ArgMatches<'_>, prefix: Text) -> Result<Plan, Faulty>
     requires { first_of (codes "into") (rows_of (found_of matches.now)) ≡ Some prefix }
     ensures command { IfOk result (λ plan. command_of plan ≡ command.Part) }
@@ -331,17 +302,17 @@ fn parts_shown(alloc: Global, matches: &ArgMatches<'_>) -> Result<Plan, Faulty>
         Err(faulty) => return Err(faulty),
     };
     match given_part(alloc, matches, count) {
-        Ok(part) => Ok(once(Once::Part {
+        Ok(part) => Ok(Plan::Alone(Alone::Once(Once::Part {
             count,
             part,
             files,
             has_lines,
-        })),
+        }))),
         Err(faulty) => Err(faulty),
     }
 }
 
-/// The number of a part, of as many as the words say, where they gave one.
+/// The number of a part, of as many as the command line says, where it gave one.
 fn given_part(alloc: Global, matches: &ArgMatches<'_>, count: u64) -> Result<Option<u64>, Faulty>
     requires { IsPartCount (text_in (rows_of (found_of matches.now)) (codes "of")) count }
     ensures ok { IfOk result
@@ -359,8 +330,8 @@ fn given_part(alloc: Global, matches: &ArgMatches<'_>, count: u64) -> Result<Opt
     }
 }
 
-/// What is asked of an order. Its values are tested in this order: the time, the source, the
-/// action, the number.
+/// What the command line asks of an order. Its values are tested in this order: the time, the
+/// source, the action, the number.
 fn request(alloc: Global, matches: &ArgMatches<'_>) -> Result<Request, Faulty>
     ensures ok { IfOk result (HasRequestOf (rows_of (found_of matches.now))) }
     ensures err { IfErr result (Blames ((r : Request)
@@ -393,7 +364,7 @@ fn request(alloc: Global, matches: &ArgMatches<'_>) -> Result<Request, Faulty>
     }
 }
 
-/// The words, borrowed.
+/// The words of the command line, borrowed.
 fn as_strs<'a>(alloc: Global, words: &'a [Text]) -> Result<Vec<&'a str>, AllocError>
     ensures { IfOk result (λ list. map (λ s. s.now) list.items ≡ words.now) }
 {

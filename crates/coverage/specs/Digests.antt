@@ -11,7 +11,7 @@ use Rattle.block_digests.specs.Lacking.{lacking}
 use Rattle.block_digests.specs.Number.{has_number}
 use Rattle.coverage.specs.Summary.{IsSummary, Sources, holds_at}
 
--- the digest of a source's block, none where there is none
+-- the summary's digest of a source's block, none where there is none
 abbrev pub block_digest_at : Sources → List ℕ → ℕ → Option (List ℕ)
 block_digest_at s source k = option_map_or (λ ds. block_digest (blocks_of ds source) k) s.digests None
 
@@ -23,12 +23,12 @@ pub record Digests (E : List EventValue) (s : Sources) : Type 0 where
   pub numbers : (source : List ℕ) (n : ℕ) → holds_at s source n ≡ has_number E source n
   pub blocks : (source : List ℕ) (k : ℕ) → block_digest_at s source k ≡ digest_in E source k
 
--- whether the peer has this digest of a block; a peer of version 1 is taken at its numbers
+-- whether a peer's summary has this digest of a block; one of version 1 is taken at its numbers
 abbrev pub has_digest : Sources → List ℕ → ℕ → Option (List ℕ) → Bool
 has_digest peer source k own =
     option_map_or (λ ds. is_one_digest (block_digest (blocks_of ds source) k) own) peer.digests true
 
--- whether the peer lacks the number of the source, or has another digest of its block than this
+-- whether the peer's summary lacks the number of the source, or has another digest of its block
 abbrev pub lacks : Sources → List ℕ → ℕ → Option (List ℕ) → Bool
 lacks peer source n own =
     not (holds_at peer source n) || not (has_digest peer source (block_of n) own)
@@ -38,13 +38,13 @@ lacks peer source n own =
 abbrev pub is_wanted : Sources → Sources → List ℕ → ℕ → Bool
 is_wanted peer own source n = lacks peer source n (block_digest_at own source (block_of n))
 
--- whether the event has a number that the peer lacks, going by the digests of E
+-- whether the event has a number that the peer's summary lacks, going by the digests of E
 abbrev pub is_lacking : List EventValue → Sources → EventValue → Bool
 is_lacking E peer e =
     option_map_or (λ n. lacks peer (source_of e) n (digest_in E (source_of e) (block_of n)))
     (number_of e) false
 
--- those of the events that a peer lacks, going by the digests of E
+-- those of the events that a peer's summary lacks, going by the digests of E
 abbrev pub lacking_of : List EventValue → Sources → List EventValue → List EventValue
 lacking_of E peer L = filter (is_lacking E peer) L
 

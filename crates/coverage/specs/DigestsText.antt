@@ -9,21 +9,21 @@ use Rattle.coverage.specs.BlockDigests.{Blocks, SourceBlocks}
 use Rattle.coverage.specs.Numbers.{Entries}
 use Rattle.coverage.specs.NumbersText.{sources_members}
 
--- a block as the array of its number and its digest
+-- a block in a summary's text as the array of its number and its digest
 abbrev pub block_data : ℕ × List ℕ → Data
 block_data b = array (item (number (unsigned b.0)) (item (string (encode_lower b.1)) no_items))
 
--- each block as such an array
+-- each block in a summary's text as the array of its number and its digest
 abbrev pub blocks_items : Blocks → Items
 blocks_items [] = no_items
 blocks_items (b ∷ bs) = item (block_data b) (blocks_items bs)
 
--- a member for each source, with its blocks
+-- a summary text's member for each source, with its blocks
 abbrev pub blocks_members : SourceBlocks → Members
 blocks_members [] = no_members
 blocks_members (d ∷ ds) = member d.0 (array (blocks_items d.1)) (blocks_members ds)
 
--- numbers and digests as JSON: blocks of sources, their numbers, the version
+-- a summary's numbers and digests as JSON: blocks of sources, their numbers, the version
 abbrev pub digests_data : Entries → SourceBlocks → Data
 digests_data es ds =
     object (member (codes "blocks") (object (blocks_members ds))

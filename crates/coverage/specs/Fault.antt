@@ -4,7 +4,7 @@ use Rattle.coverage.specs.declared.fault.SummaryFault.{SummaryFault}
 use Rattle.coverage.specs.declared.fault.SummaryFault.TheVariants.{OutOfMemory, NotJson, Shape}
 use Rattle.coverage.specs.declared.fault.SummaryFault.TheVariants.{Version, NotCanonical}
 
--- the number of a refusal, in the order in which they are tested
+-- the number of a summary's refusal, in the order in which they are tested
 abbrev pub fault_number : SummaryFault → ℕ
 fault_number OutOfMemory = 1
 fault_number NotJson = 2

@@ -2,7 +2,7 @@
 pub use Rattle.attributes.specs.Sequence.{max_sequence}
 use Rattle.std.specs.Prelude.{◌≡◌, ℕ, ◌+◌, ◌-◌, ◌<◌, ◌≤◌, Bool, true, false, ◌&&◌, ◌||◌, nat_le, List, [], ◌∷◌, length, slice_index_or, sum_by, IsTrue, ◌↔◌}
 
--- the first and the last number
+-- the first and the last number of an interval
 abbrev pub Interval : Type 0
 Interval = ℕ × ℕ
 
@@ -32,7 +32,7 @@ rises_from n (p ∷ ps) = fits_from n p && rises_from (p.1 + 2) ps
 abbrev pub IsCanonical : List Interval → Type 0
 IsCanonical ps = rises_from 1 ps ≡ true
 
--- the list is canonical and holds the numbers of which the fact is true
+-- the list of intervals is canonical and holds the numbers of which the fact is true
 abbrev pub Forms : List Interval → (ℕ → Type 0) → Type 0
 Forms ps X = IsCanonical ps × ((n : ℕ) → IsTrue (holds ps n) ↔ X n)
 
@@ -44,11 +44,11 @@ width p = p.1 - p.0 + 1
 abbrev pub size_of : List Interval → ℕ
 size_of ps = sum_by width ps
 
--- the number is held, and no greater one is
+-- the intervals hold the number, and no greater one
 abbrev pub IsGreatest : List Interval → ℕ → Type 0
 IsGreatest ps g = (holds ps g ≡ true) × ((n : ℕ) → holds ps n ≡ true → n ≤ g)
 
--- the number is a sequence number that isn't held, and some greater number is held
+-- the number is a sequence number that the intervals don't hold, and they hold some greater number
 abbrev pub IsMissing : List Interval → ℕ → Type 0
 IsMissing ps n = (1 ≤ n) × (holds ps n ≡ false) × ((m : ℕ) × ((n < m) × (holds ps m ≡ true)))
 
@@ -63,6 +63,6 @@ IsNextSpan ps from p =
 abbrev pub AllStartBefore : List Interval → ℕ → Type 0
 AllStartBefore ps from = (k : ℕ) → k < length ps → (interval_at ps k).0 < from
 
--- every number that the second list holds is held by the first
+-- every number that the second list of intervals holds is held by the first
 abbrev pub HoldsAll : List Interval → List Interval → Type 0
 HoldsAll ps qs = (n : ℕ) → holds qs n ≡ true → holds ps n ≡ true

@@ -9,7 +9,7 @@ use Rattle.coverage.specs.declared.fault.SummaryFault.{SummaryFault}
 use Rattle.coverage.specs.declared.fault.SummaryFault.TheVariants.{OutOfMemory, NotJson, Shape}
 use Rattle.coverage.specs.declared.fault.SummaryFault.TheVariants.{Version, NotCanonical}
 
--- the bytes are no JSON text
+-- the bytes to be a summary are no JSON text
 abbrev pub IsNoJson : List ℕ → Type 0
 IsNoJson bytes = (d : Data) → IsJsonText bytes d → ⊥
 
@@ -29,7 +29,7 @@ IsOfShape d =
 abbrev pub IsMisshapen : List ℕ → Type 0
 IsMisshapen bytes = (d : Data) × (IsJsonText bytes d × ((version_of d ≡ None) ⊎ IsOtherShape d))
 
--- a value whose version is neither 1 nor 2
+-- a value for a summary whose version is neither 1 nor 2
 abbrev pub IsOtherVersion : List ℕ → Type 0
 IsOtherVersion bytes =
     (d : Data) × (IsJsonText bytes d × ((v : ℕ) × ((version_of d ≡ Some v) × (v ≢ 1) × (v ≢ 2))))
@@ -42,7 +42,7 @@ IsNoSummaryText bytes = (s : Sources) → IsSummary s → bytes ≢ summary_text
 abbrev pub IsNotCanonical : List ℕ → Type 0
 IsNotCanonical bytes = (d : Data) × (IsJsonText bytes d × IsOfShape d × IsNoSummaryText bytes)
 
--- what is true of bytes that are refused with the fault
+-- what is true of bytes for a summary that are refused with the fault
 abbrev pub RefusesSummary : List ℕ → SummaryFault → Type 0
 RefusesSummary bytes OutOfMemory = Unit {0}
 RefusesSummary bytes NotJson = IsNoJson bytes

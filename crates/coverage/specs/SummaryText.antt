@@ -7,7 +7,7 @@ use Rattle.coverage.specs.Numbers.{Entries}
 use Rattle.coverage.specs.NumbersText.{numbers_text}
 use Rattle.coverage.specs.Summary.{Sources}
 
--- the text of numbers, and of digests where there are any
+-- the text of a summary's numbers, and of digests where there are any
 abbrev pub text_of_entries : Entries → Option SourceBlocks → List ℕ
 text_of_entries es None = numbers_text es
 text_of_entries es (Some ds) = digests_text es ds
@@ -16,8 +16,8 @@ text_of_entries es (Some ds) = digests_text es ds
 abbrev pub summary_text : Sources → List ℕ
 summary_text s = text_of_entries s.entries s.digests
 
--- the text is the rest of these bytes before one LF at their end, or all of them where none is
--- there
+-- the summary's text is the rest of these bytes before one LF at their end, or all of them where
+-- none is there
 abbrev pub WithoutLineEnd : List ℕ → List ℕ → Type 0
 WithoutLineEnd bytes text = (bytes ≡ text ++ 10 ∷ [])
     ⊎ ((bytes ≡ text) × ((front : List ℕ) → bytes ≢ front ++ 10 ∷ []))

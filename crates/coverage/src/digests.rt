@@ -31,7 +31,7 @@ impl Model for SourceDigests {
     ghost view = { λ s. blocks_in s.sources.entries };
 }
 
-/// A copy of the digests of a source's blocks.
+/// A copy of the digests of a source's blocks in a summary.
 fn copy_blocks(
     alloc: Global,
     blocks: &BTreeMap<u64, [u8; 32]>,
@@ -45,7 +45,7 @@ fn copy_blocks(
     Ok(own)
 }
 
-/// Writes the blocks of a source, each as an array of its number and its digest.
+/// Writes a source's blocks in a summary, each as an array of its number and its digest.
 fn write_blocks(
     alloc: Global,
     out: &mut Writer,
@@ -65,7 +65,7 @@ fn write_blocks(
     Ok(())
 }
 
-/// Writes a source, and then its blocks.
+/// Writes a source of a summary's text, and then its blocks.
 fn write_source(
     alloc: Global,
     out: &mut Writer,
@@ -84,9 +84,9 @@ fn write_source(
 }
 
 impl SourceDigests {
-    /// The digests of the blocks of events that came; those that are stale are made, and not kept.
-    /// Time and memory linear in the sources and the blocks, but for a logarithm in the time, and
-    /// those of `mend` for stale blocks.
+    /// The summary's digests of the blocks of events that came; those that are stale are made, and
+    /// not kept. Time and memory linear in the sources and the blocks, but for a logarithm in the
+    /// time, and those of `mend` for stale blocks.
     pub fn of_blocks<E: Arrivals>(blocks: &Blocks, events: &E) -> Result<SourceDigests, AllocError>
         ensures { AreEvents (E.arrivals events.now)
             → IsKeptOf (E.arrivals events.now) blocks.now
@@ -98,8 +98,8 @@ impl SourceDigests {
         })
     }
 
-    /// Writes each source with an array of its blocks, without an object around them. Time and
-    /// memory linear in the sources and the blocks.
+    /// Writes each source of a summary with an array of its blocks, without an object around them.
+    /// Time and memory linear in the sources and the blocks.
     pub fn write(&self, out: &mut Writer) -> Result<(), AllocError>
         ensures before { OnOk result (out.new.before ≡ out.old.before) }
         ensures tokens { OnOk result (out.new.tokens
@@ -111,8 +111,8 @@ impl SourceDigests {
         Ok(())
     }
 
-    /// The digest of a block of a source, where it has one. Time logarithmic in the sources and in
-    /// the blocks of the source.
+    /// The summary's digest of a block of a source, where it has one. Time logarithmic in the
+    /// sources and in the blocks of the source.
     pub fn digest_of(&self, source: &str, k: u64) -> Option<&[u8; 32]>
         ensures { option_copied result ≡ block_digest (blocks_of self.now source.now) k }
     {
@@ -122,8 +122,8 @@ impl SourceDigests {
         }
     }
 
-    /// A copy. Time and memory linear in the sources and the blocks, but for a logarithm in the
-    /// time.
+    /// A copy of the summary's digests. Time and memory linear in the sources and the blocks, but
+    /// for a logarithm in the time.
     pub fn copy(&self) -> Result<SourceDigests, AllocError>
         ensures copied { IfOk result (λ r. r ≡ self.now) }
         ensures err { OnErr result (self.now ≢ []) }
@@ -142,8 +142,8 @@ impl SourceDigests {
         })
     }
 
-    /// Whether both have the same blocks of the same sources, with the same digests. Time linear in
-    /// the sources and the blocks.
+    /// Whether both summaries have the same blocks of the same sources, with the same digests. Time
+    /// linear in the sources and the blocks.
     pub fn same(&self, other: &SourceDigests) -> bool
         ensures { IsTrue result ↔ (self.now ≡ other.now) }
     {

@@ -28,14 +28,14 @@ pub enum SummaryFault {
 impl From<AllocError> for SummaryFault {
     ghost from_gives = { λ _ e. e ≡ OutOfMemory };
 
-    /// Want of memory.
+    /// Want of memory while a summary is read.
     fn from(_error: AllocError) -> SummaryFault {
         SummaryFault::OutOfMemory
     }
 }
 
 impl SummaryFault {
-    /// The number that the refusal is known by, 1 to 5.
+    /// The number that the summary's refusal is known by, 1 to 5.
     pub fn number(self) -> u8
         ensures { result ≡ fault_number self }
     {

@@ -13,7 +13,7 @@ pub fn numbers_tell_intervals()
         → ((n : ℕ) → holds s n ≡ holds t n) → s ≡ t }
 {}
 
-/// The size of a set is how many of the numbers below any limit of the set it holds.
+/// The size of intervals is how many of the numbers below any limit of theirs they hold.
 pub fn size_counts_numbers()
     ensures { (s : List Interval) (limit : ℕ) → IsCanonical s
         → ((n : ℕ) → holds s n ≡ true → n < limit)
@@ -27,7 +27,7 @@ pub fn numbers_tell_summaries()
         → ((source : List ℕ) (n : ℕ) → holds_at s source n ≡ holds_at t source n) → s ≡ t }
 {}
 
-/// The numbers of the sources determine the text that says which they are.
+/// The numbers of the sources determine the text of the summary that says which they are.
 pub fn numbers_tell_cover_texts()
     ensures one { (has had : List ℕ → ℕ → Bool) (t u : List ℕ)
         → ((source : List ℕ) (n : ℕ) → has source n ≡ had source n)

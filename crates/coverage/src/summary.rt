@@ -51,7 +51,7 @@ impl Model for Summary {
     ghost invariant = { λ s. HasDigests s.numbers s.digests };
 }
 
-/// Whether both digests are there and equal.
+/// Whether both digests of a block in summaries are there and equal.
 fn is_one_digest(digest: Option<&[u8; 32]>, other: Option<&[u8; 32]>) -> bool
     ensures { result ≡ is_one_digest (option_copied digest.entry) (option_copied other.entry) }
 {
@@ -75,7 +75,7 @@ impl Summary {
         }
     }
 
-    /// Whether the number has been seen for the source. Time logarithmic in the sources and in
+    /// Whether the summary holds the number for the source. Time logarithmic in the sources and in
     /// the intervals of the source.
     pub fn contains(&self, source: &str, number: Sequence) -> bool
         ensures { result ≡ holds_at self.now source.now number }
@@ -105,7 +105,7 @@ impl Summary {
         self.insert_str(source.as_str(), number)
     }
 
-    /// `insert` for a source that is lent.
+    /// The summary's `insert` for a source that is lent.
     pub fn insert_str(&mut self, source: &str, number: Sequence) -> Result<bool, AllocError>
         requires { is_filled source.now ≡ true }
         ensures new { IfOk result (λ b. b ≡ not (holds_at self.old source.now number)) }
@@ -126,7 +126,7 @@ impl Summary {
         }
     }
 
-    /// The numbers of the source, where it has any. Time logarithmic in the sources.
+    /// The summary's numbers of the source, where it has any. Time logarithmic in the sources.
     pub fn of_source(&self, source: &str) -> Option<&Intervals>
         ensures numbers { MatchOption result (numbers_of self.now source.now ≡ [])
             (λ i. i.now ≡ numbers_of self.now source.now) }
@@ -136,7 +136,7 @@ impl Summary {
         self.numbers.of_source(source)
     }
 
-    /// How many sources there are.
+    /// How many sources the summary has.
     pub fn len(&self) -> u64
         ensures len { result ≡ length (sources_of self.now) }
         ensures summary { IsSummary self.now }
@@ -144,8 +144,8 @@ impl Summary {
         self.numbers.len()
     }
 
-    /// The source at a place of the byte order, from 0 on. Time linear in the place: whoever wants
-    /// all of them takes `entries`.
+    /// The summary's source at a place of the byte order, from 0 on. Time linear in the place:
+    /// whoever wants all of them takes `entries`.
     pub fn source_at(&self, i: u64) -> &str
         requires { i < length (sources_of self.now) }
         ensures { slice_get (sources_of self.now) i ≡ Some result.now }
@@ -153,7 +153,7 @@ impl Summary {
         self.numbers.source_at(i)
     }
 
-    /// All sources in byte order, each with its numbers. Time and memory linear in the sources.
+    /// The summary's sources in byte order, with their numbers. Time and memory linear in them.
     pub fn entries(&self) -> Result<Vec<(&str, &Intervals)>, AllocError>
         ensures entries { IfOk result (λ v. map deref_pair v.items ≡ entries_of self.now) }
         ensures summary { IsSummary self.now }
@@ -161,8 +161,8 @@ impl Summary {
         self.numbers.entries()
     }
 
-    /// A copy, of the same version. Time and memory linear in the sources, the intervals and the
-    /// blocks, but for a logarithm in the time.
+    /// A copy of the summary, of the same version. Time and memory linear in the sources, the
+    /// intervals and the blocks, but for a logarithm in the time.
     pub fn copy(&self) -> Result<Summary, AllocError>
         ensures copied { IfOk result (λ r. r ≡ self.now) }
         ensures summary { IsSummary self.now }
@@ -203,8 +203,8 @@ impl Summary {
         self.numbers.covers(&other.numbers)
     }
 
-    /// Whether both are of one version, hold the same numbers of the same sources, and have the
-    /// same digests. Time linear in the sources, the intervals and the blocks.
+    /// Whether both summaries are of one version, hold the same numbers of the same sources, and
+    /// have the same digests. Time linear in the sources, the intervals and the blocks.
     pub fn same(&self, other: &Summary) -> bool
         ensures equal { IsTrue result ↔ (self.now ≡ other.now) }
         ensures numbers { version_of self.now ≡ 1 → version_of other.now ≡ 1
@@ -225,8 +225,8 @@ impl Summary {
         }
     }
 
-    /// The digest of a block of a source: none in version 1, and where the summary holds no number
-    /// of the block. Time logarithmic in the sources and in the blocks of the source.
+    /// The summary's digest of a source's block: none in version 1, and where it holds no number of
+    /// the block. Time logarithmic in the sources and in the blocks of the source.
     pub fn digest_of(&self, source: &str, k: u64) -> Option<&[u8; 32]>
         ensures { option_copied result ≡ block_digest_at self.now source.now k }
     {
@@ -299,7 +299,7 @@ impl Summary {
         Err(SummaryFault::Version)
     }
 
-    /// `of_text` for a value of version 1.
+    /// The summary's `of_text` for a value of version 1.
     fn of_version_1(alloc: Global, value: Value, bytes: &[u8]) -> Result<Summary, SummaryFault>
         requires json { IsJsonText bytes.now (view value) }
         requires version { shape.version_of (view value) ≡ Some 1 }
@@ -317,7 +317,7 @@ impl Summary {
         }
     }
 
-    /// `of_text` for a value of version 2.
+    /// The summary's `of_text` for a value of version 2.
     fn of_version_2(alloc: Global, value: Value, bytes: &[u8]) -> Result<Summary, SummaryFault>
         requires json { IsJsonText bytes.now (view value) }
         requires version { shape.version_of (view value) ≡ Some 2 }
@@ -384,7 +384,7 @@ impl Summary {
         }
     }
 
-    /// Whether the number isn't held, or the other summary's digest of its block isn't had.
+    /// Whether the summary lacks the number, or the other's digest of its block.
     fn lacks(&self, own: &Summary, source: &str, number: Sequence) -> bool
         ensures { result ≡ is_wanted self.now own.now source.now number }
     {

@@ -22,7 +22,7 @@ use Rattle.databases.specs.declared.fault.CommandFault.TheVariants as command
 
 -- ---- the inbox
 
--- `take` was given these events, and who looks on was told
+-- what the command `take`, given these events, does to a database, and who looks on was told
 pub record TakeEffect (tells : ℕ → ℕ → Type 0) (events : List EventValue)
     (outcome : Result (List ℕ) CommandFault) (old new : State) : Type 0 where
   pub taken : HasCleanDisk new → IfOk outcome (TakesInto events old.now new.now)
@@ -45,7 +45,7 @@ pub record TakeEffect (tells : ℕ → ℕ → Type 0) (events : List EventValue
   pub both : has_both old.now.schema ≡ true → IsErrOf outcome command.Foreign
   pub fault : IfErr outcome IsUntold
 
--- a page was asked for, by `delta` or `scrub`
+-- a page of a database was asked for, by the command `delta` or `scrub`
 pub record PageEffect (Shows : Database → List ℕ → Type 0)
     (outcome : Result (List ℕ) CommandFault) (old new : State) : Type 0 where
   pub shown : HasCleanDisk new → IfOk outcome (Shows old.now)
@@ -63,7 +63,7 @@ pub record PageEffect (Shows : Database → List ℕ → Type 0)
   pub both : has_both old.now.schema ≡ true → IsErrOf outcome command.Foreign
   pub fault : IfErr outcome IsUntold
 
--- a command only looked at the inbox: `summary`, or all pages of `delta` or `scrub`
+-- a command only looked at a database: `summary`, or all pages of `delta` or `scrub`
 pub record LookEffect {A : Type 0} (Shows : Database → A → Type 0)
     (outcome : Result A CommandFault) (old new : State) : Type 0 where
   pub shown : HasCleanDisk new → IfOk outcome (Shows old.now)
@@ -76,14 +76,14 @@ pub record LookEffect {A : Type 0} (Shows : Database → A → Type 0)
   pub both : has_both old.now.schema ≡ true → IsErrOf outcome command.Foreign
   pub fault : IfErr outcome IsUntold
 
--- the events were asked for
+-- a command asked for the events of a database
 pub record HeldEffect (outcome : Result (List EventValue) CommandFault) (old new : State)
     : Type 0 where
   pub look : LookEffect ShowsEvents outcome old new
   -- where there is no inbox there are none, and nothing refuses that
   pub none : has_inbox old.now.schema ≡ false → IfOk outcome (λ es. es ≡ []) × IsOk outcome
 
--- it was asked what the database of this name is
+-- a command asked what the database of this name is
 pub record DescribeEffect (name : List ℕ) (outcome : Result (List ℕ) CommandFault)
     (old new : State) : Type 0 where
   pub told : HasCleanDisk new → IfOk outcome (Describes name old.now)
@@ -96,7 +96,7 @@ pub record DescribeEffect (name : List ℕ) (outcome : Result (List ℕ) Command
 
 -- ---- the service
 
--- a service was to be told, or made with this source and base where there was none
+-- a database's service was to be told, or made with this source and base where there was none
 pub record ServiceEffect (is_named : Bool) (given : List ℕ) (start : Option ℕ)
     (outcome : Result (List ℕ) CommandFault) (old new : State) : Type 0 where
   pub told : HasCleanDisk new
@@ -121,7 +121,7 @@ pub record ServiceEffect (is_named : Bool) (given : List ℕ) (start : Option �
       → IsNoService old.now ⊎ HasOtherBase is_named given start old.now)
   pub fault : IfErr outcome IsNoOrders
 
--- a command was given to a service, of this source where it was named
+-- a command was given to a database's service, of this source where it was named
 pub record OrderEffect (is_named : Bool) (given : List ℕ) (c : Accepted)
     (outcome : Result (List ℕ) CommandFault) (old new : State) : Type 0 where
   pub ordered : HasCleanDisk new → IfOk outcome (Orders given c old.now new.now)
@@ -148,7 +148,7 @@ pub record OrderEffect (is_named : Bool) (given : List ℕ) (c : Accepted)
   pub clean : HasCleanDisk new → HasCleanDisk old
   pub crash : LeavesOrOrders given c old new
 
--- the next rows after a number were asked for
+-- a command asked for the next rows of a database's service after a number
 pub record RelayEffect (given : List ℕ) (after : ℕ) (outcome : Result (List ℕ) CommandFault)
     (old new : State) : Type 0 where
   pub shown : HasCleanDisk new → IfOk outcome (ShowsRows given after old.now)
@@ -165,7 +165,7 @@ pub record RelayEffect (given : List ℕ) (after : ℕ) (outcome : Result (List 
   pub crash : LeavesOrFounds given 0 old new
   pub fault : IfErr outcome IsNoRows
 
--- all rows after a number were asked for
+-- a command asked for all rows of a database's service after a number
 pub record RelayAllEffect (after : ℕ) (outcome : Result (List ℕ) CommandFault) (old new : State)
     : Type 0 where
   pub shown : HasCleanDisk new → IfOk outcome (ShowsAllRows after old.now)

@@ -34,7 +34,7 @@ pub trait Command {
     // For what it is refused, whatever the disk does.
     ghost fails: { Self → CommandFault → Type 0 } = { λ _. IsUntold };
 
-    /// Carries it out over an open connection.
+    /// Carries a command over a database out over an open connection.
     fn perform<S: Alter + Drop>(
         self,
         alloc: Global,

@@ -74,7 +74,7 @@ pub fn describe<S: Alter + Drop>(
     }
 }
 
-/// Both lines, one behind the other.
+/// Both lines that tell what the database of a name is, one behind the other.
 fn joined(first: Text, rest: &Text) -> Result<Text, CommandFault>
     ensures both { IfOk result (λ text. text ≡ first ++ rest.now) }
     ensures fault { IfErr result (λ f. f ≡ command.OutOfMemory) }
@@ -116,7 +116,7 @@ fn inbox_line<S: Alter>(
     }
 }
 
-/// The number of a version.
+/// The number of a version of an inbox that a command describes.
 fn version_number(version: Version) -> u64
     ensures { result ≡ version_number version }
 {
@@ -126,7 +126,7 @@ fn version_number(version: Version) -> u64
     }
 }
 
-/// The line of an inbox of that version with these events, each of which stands there once.
+/// The line that tells of an inbox of that version with these events, each of which is there once.
 fn events_line(alloc: Global, name: &str, version: u64, events: Batch) -> Result<Text, CommandFault>
     ensures line { IfOk result (TellsInboxLine name.now events version) }
     ensures fault { IfErr result (λ f. f ≡ command.OutOfMemory) }
@@ -136,7 +136,7 @@ fn events_line(alloc: Global, name: &str, version: u64, events: Batch) -> Result
     Ok(database_line(alloc, name, count, sources, version)?)
 }
 
-/// How many sources these events have.
+/// How many sources these events of a described database have.
 fn sources_of(alloc: Global, events: Batch) -> Result<u64, AllocError>
     ensures { IfOk result (CountsSources (append_new key_cmp [] events)) }
 {
@@ -144,7 +144,7 @@ fn sources_of(alloc: Global, events: Batch) -> Result<u64, AllocError>
     count_sources(&mut site)
 }
 
-/// How many sources the events of a site have.
+/// How many sources the events of a site have, to describe its database.
 fn count_sources(site: &mut Site) -> Result<u64, AllocError>
     ensures { IfOk result (CountsSources site.old) }
 {

@@ -33,8 +33,8 @@ const MIB: u64 = 256;
 /// not ask for more; of a database past this size an open reads pages again.
 const MOST_PAGES: u64 = 65_536;
 
-/// Whether the name means no file of that name to SQLite: the empty one and `:memory:` are
-/// databases that go away there, and one that begins with `file:` is a URI.
+/// Whether a database's name means no file to SQLite: the empty one and `:memory:` are databases
+/// that go away there, and one that begins with `file:` is a URI.
 pub(crate) fn is_no_file(name: &str) -> bool
     ensures some { IsTrue result → IsNoFile name.now }
     ensures none { IsNoFile name.now → IsTrue result }
@@ -64,7 +64,7 @@ pub(crate) fn open_there<T: Start>(
     }
 }
 
-/// As [`open_there`], with what is the matter where it isn't opened.
+/// As [`open_there`], with what is the matter where the database of that name isn't opened.
 pub(crate) fn found<T: Start>(
     rt: &HostRuntime,
     name: &str,
@@ -81,7 +81,7 @@ pub(crate) fn found<T: Start>(
     }
 }
 
-/// Whether there is something of that name, which may be a database: `CannotRead` where there isn't.
+/// Whether there is something of a database's name: `CannotRead` where there isn't.
 pub(crate) fn is_there(rt: &HostRuntime, name: &str) -> Result<(), Trouble>
     ensures none { IsNoFile name.now → IsErrOf result trouble.NoFile }
     ensures name { IfErr result (λ why. why ≡ trouble.NoFile → IsNoFile name.now) }
@@ -112,7 +112,7 @@ pub fn open(
     open_over(rt, name, growth, Unknown)
 }
 
-/// As [`open`], whatever the files hold: what that is, `T` says in clauses, and no code can ask.
+/// As [`open`] of a database's name, whatever its files hold: that `T` says, and no code can ask.
 pub fn open_over<T: Start>(
     rt: &HostRuntime,
     name: &str,
@@ -132,7 +132,7 @@ pub fn open_over<T: Start>(
     }
 }
 
-/// As [`open_over`], of a name that is a file's, with what is the matter where it isn't opened.
+/// As [`open_over`], of a database's name that is a file's, with what is the matter if not opened.
 pub(crate) fn opened<T: Start>(
     rt: &HostRuntime,
     name: &str,
@@ -154,7 +154,7 @@ pub(crate) fn opened<T: Start>(
     }
 }
 
-/// How long the file of that name is; 0 where there is none.
+/// How long the database file of that name is; 0 where there is none.
 fn length_of(rt: &HostRuntime, name: &str) -> u64 {
     match fs::metadata(rt, name) {
         Ok(found) => found.len(),
@@ -162,9 +162,9 @@ fn length_of(rt: &HostRuntime, name: &str) -> u64 {
     }
 }
 
-/// The pages that are to be kept in memory: all of the file with what is added to it, and a tenth
-/// more, since the cache finds a page by its number modulo its size; `most` where that is too much.
-/// An open looks each row up in its index, so that a page which isn't kept is read over and over.
+/// A database's pages to be kept in memory: all of the file with what is added to it, and a tenth
+/// more, since the cache finds a page by its number modulo its size; `most` if that is too much. An
+/// open looks each row up in its index, so a page which isn't kept is read over and over.
 fn pages_for(length: u64, growth: u64, most: u64) -> u64
     requires { 200 ≤ most }
     ensures { (200 ≤ result) × (result ≤ most) }
@@ -173,7 +173,7 @@ fn pages_for(length: u64, growth: u64, most: u64) -> u64
     pages.saturating_add(pages / 10).clamp(LEAST_PAGES, most)
 }
 
-/// The most pages that are kept in memory.
+/// The most pages of a database that a command keeps in memory.
 fn most_pages(rt: &HostRuntime) -> Result<u64, Trouble>
     ensures pages { IfOk result (λ n. 200 ≤ n) }
     ensures refused { IfErr result IsSystemTrouble }
@@ -190,7 +190,7 @@ fn most_pages(rt: &HostRuntime) -> Result<u64, Trouble>
     }
 }
 
-/// The pages of so many MiB, of which there is one at least.
+/// The pages of a database in so many MiB, of which there is one at least.
 fn pages_of(mib: &str) -> Option<u64>
     ensures { IfSome result (λ n. (200 ≤ n) × (n ≤ 268435456)) }
 {
@@ -205,7 +205,7 @@ fn pages_of(mib: &str) -> Option<u64>
     }
 }
 
-/// How a database is opened, with a seed drawn at random.
+/// How a command opens a database, with a seed drawn at random.
 fn options(rt: &HostRuntime, pages: u64) -> Result<Options, Trouble>
     ensures memory { IfOk result (λ o. (o.cache_pages ≡ pages) × (pages ≤ o.spill_pages)) }
     ensures refused { IfErr result IsSystemTrouble }

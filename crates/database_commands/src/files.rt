@@ -38,7 +38,7 @@ impl<'a> Databases for Opener<'a> {
     ) -> Result<Text, CommandFault> {
         // A row has some 100 bytes beside the event's text, and the index half a row.
         let growth = events.len().saturating_mul(512);
-        give(self, alloc, name, growth, TakeEvents { events, watch })
+        carry_out(alloc, self.open(name, growth), TakeEvents { events, watch })
     }
 
     fn follow<R: Read, W: Write>(
@@ -90,11 +90,11 @@ impl<'a> Databases for Opener<'a> {
         summary: &Summary,
         from: u64,
     ) -> Result<Text, CommandFault> {
-        give(self, alloc, name, 0, DeltaPage { summary, from })
+        give(self, alloc, name, DeltaPage { summary, from })
     }
 
     fn scrub(&self, alloc: Global, name: &str, from: u64) -> Result<Text, CommandFault> {
-        give(self, alloc, name, 0, ScrubPage { from })
+        give(self, alloc, name, ScrubPage { from })
     }
 
     fn arrivals(&self, alloc: Global, name: &str, after: u64) -> Result<Text, CommandFault> {
@@ -127,7 +127,7 @@ impl<'a> Databases for Opener<'a> {
             number,
             at,
         };
-        give(self, alloc, name, 0, order)
+        give(self, alloc, name, order)
     }
 
     fn service(
@@ -143,7 +143,7 @@ impl<'a> Databases for Opener<'a> {
             is_source_named,
             base,
         };
-        give(self, alloc, name, 0, told)
+        give(self, alloc, name, told)
     }
 
     fn describe(&self, alloc: Global, name: &str) -> Result<Text, Trouble> {
@@ -188,19 +188,18 @@ impl<'a> Databases for Opener<'a> {
 }
 
 /// Gives a command to the database of that name, which is made where there is none, and closes it in
-/// the end.
+/// the end. Its cache isn't made larger for what the command adds.
 fn give<C: Command + Drop>(
     opener: &Opener<'_>,
     alloc: Global,
     name: &str,
-    growth: u64,
     command: C,
 ) -> Result<C::Answer, CommandFault>
     requires { C.may_come command }
     ensures answer { IfOk result (C.says command) }
     ensures fault { IfErr result (OrOfNamed (C.fails command)) }
 {
-    carry_out(alloc, opener.open(name, growth), command)
+    carry_out(alloc, opener.open(name, 0), command)
 }
 
 /// Gives a command to the database of that name; one that isn't there is not made: `CannotRead`.
@@ -214,11 +213,14 @@ fn give_there<C: Command + Drop>(
     ensures answer { IfOk result (C.says command) }
     ensures fault { IfErr result (OrOfNamed (C.fails command)) }
 {
-    carry_out(alloc, opener.open_there(name), command)
+    match opener.found(name) {
+        Ok(conn) => carry_out(alloc, Ok(conn), command),
+        Err(why) => Err(why.fault()),
+    }
 }
 
-/// Gives a command to a database where it was opened, and closes it in the end. So all commands meet
-/// the store of files here.
+/// Gives a command to a database where it was opened, and closes it in the end. So all but
+/// `Describe` meet the store of files here.
 fn carry_out<C: Command + Drop>(
     alloc: Global,
     opened: Result<Connection<FileStore<File>>, CommandFault>,
@@ -240,7 +242,7 @@ fn lacks_service<S: Alter>(conn: &Connection<S>) -> bool
     !has_name(conn.schema())
 }
 
-/// Closes the database of a command, and answers what it came to.
+/// Closes the database of a command, and answers what the command came to.
 fn answer_of<A: Drop>(ended: CommandEnd<FileStore<File>, A>) -> Result<A, CommandFault>
     ensures answer { result ≡ ended.outcome }
     ensures closes { Closes ended.conn }

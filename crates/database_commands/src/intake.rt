@@ -19,10 +19,10 @@ use sqlite::{Alter, Connection};
 use std::alloc::Global;
 
 /// Adds the events that a database doesn't have, each in its turn, and answers the line that says
-/// how many of them were new. The table is made where there is none. One transaction; the events
-/// that are there already are read once and not kept. The watch is told from time to time how many
-/// of the batch are in, and before that, where a table of version 1 gives way, how many of its
-/// events are. A refusal leaves what the database held; only where the memory for the line is
+/// how many of them were new. The table is made where there is none, in a transaction before that
+/// of the events; those that are there already are read once and not kept. The watch is told from
+/// time to time how many of the batch are in, and before that, where a table of version 1 gives
+/// way, how many of its events are. A refusal leaves what the database held; only where the memory for the line is
 /// wanted may the events be in. A service beside the inbox stays as it is.
 pub fn take<S: Alter + Drop, W: Watch>(
     alloc: Global,
@@ -94,7 +94,7 @@ pub(crate) fn adopted<S: Alter + Drop, W: Watch>(
     Table::open(alloc, conn, watch)
 }
 
-/// Keeps the events in a table, and answers the line that says how many were new.
+/// Keeps the events in a database's table, and answers the line that says how many were new.
 fn kept<S: Alter + Drop, W: Watch>(
     alloc: Global,
     table: &mut Table<S>,
@@ -123,18 +123,7 @@ fn kept<S: Alter + Drop, W: Watch>(
     ensures fault { IfErr result (λ f. (f ≡ OutOfMemory) ⊎ (f ≡ Store)) }
 {
     match table.keep_watched(events, watch) {
-        Ok(fresh) => said(alloc, events.len(), fresh),
+        Ok(fresh) => counts_line(alloc, events.len(), fresh),
         Err(fault) => Err(of_table(fault)),
-    }
-}
-
-/// The line of so many events, of which so many were new.
-fn said(alloc: Global, read: u64, fresh: u64) -> Result<Text, CommandFault>
-    ensures line { IfOk result (λ text. text ≡ counts_line read fresh) }
-    ensures fault { IfErr result (λ f. f ≡ OutOfMemory) }
-{
-    match counts_line(alloc, read, fresh) {
-        Ok(text) => Ok(text),
-        Err(_) => Err(CommandFault::OutOfMemory),
     }
 }

@@ -31,12 +31,12 @@ use std::io::{Read, Write};
 /// events or more, and so room for 180 MB or all that a cache may have.
 const STREAM_GROWTH: u64 = 8_192;
 
-/// About how many bytes a stream will add that begins with these, for the size of the cache alone.
+/// About how many bytes a stream adds to a database that begins with these, for its cache alone.
 pub(crate) fn growth_of(first: &[u8]) -> u64 {
     (first.len() as u64).saturating_mul(STREAM_GROWTH)
 }
 
-/// Gives a command to a database where it was opened.
+/// Gives a command to a database where it was opened by its name.
 pub(crate) fn performed<T: Start, C: Command + Drop, F: Drop>(
     alloc: Global,
     opened: Result<Connection<FileStore<FileFrom<T>>>, F>,
@@ -110,8 +110,8 @@ pub fn describe_named<T: Start>(
     performed(alloc, found(rt, name, start), Describe { name })
 }
 
-/// [`follow`] into the file of that name, which is made where there is none, once the first bytes
-/// of the input are there.
+/// [`follow`] into the database of that name, which is made where there is none, once the first
+/// bytes of the input are there.
 pub fn follow_named<T: Start, R: Read, W: Write>(
     rt: &HostRuntime,
     alloc: Global,

@@ -20,7 +20,7 @@ use std::io::{Read, Write};
 /// How many bytes a stream is taken to add, for the size of the cache alone.
 const STREAM_GROWTH: u64 = 16_777_216;
 
-/// [`number_over`] of a database where it was opened.
+/// [`number_over`] of a database where it was opened by its name.
 pub fn number_opened<T: Start, R: Read, W: Write, E: Write>(
     alloc: Global,
     opened: Result<Connection<FileStore<FileFrom<T>>>, CommandFault>,

@@ -32,12 +32,12 @@ pub struct Opener<'a> {
 }
 
 impl<'a> Opener<'a> {
-    /// Databases that are tried once.
+    /// Databases, opened by their names, that are tried once.
     pub fn new(rt: &'a HostRuntime) -> Opener<'a> {
         Opener { rt, seconds: 0 }
     }
 
-    /// The same databases, tried again for so many seconds at most.
+    /// The same databases, each tried again on opening for so many seconds at most.
     pub(crate) fn tried_for(self, seconds: u64) -> Opener<'a> {
         Opener {
             rt: self.rt,
@@ -45,7 +45,7 @@ impl<'a> Opener<'a> {
         }
     }
 
-    /// As [`crate::open`], once no other process has the file open.
+    /// As [`crate::open`] of a database, once no other process has the file open.
     pub fn open(&self, name: &str, growth: u64) -> Result<Connection<FileStore<File>>, CommandFault>
         ensures over { IfOk result (IsOver (image_at ⟦<Unknown as Start>⟧)) }
         ensures refused { RefusesFilesFor (image_at ⟦<Unknown as Start>⟧) result }
@@ -61,20 +61,8 @@ impl<'a> Opener<'a> {
         }
     }
 
-    /// As [`Opener::open`], for a command that makes no file: `CannotRead` where there is none.
-    pub(crate) fn open_there(&self, name: &str) -> Result<Connection<FileStore<File>>, CommandFault>
-        ensures over { IfOk result (IsOver (image_at ⟦<Unknown as Start>⟧)) }
-        ensures refused { RefusesFilesFor (image_at ⟦<Unknown as Start>⟧) result }
-        ensures none { IsNoFile name.now → IsErrOf result CommandFault.Store }
-        ensures named { IfErr result IsOfNamed }
-    {
-        match self.found(name) {
-            Ok(conn) => Ok(conn),
-            Err(why) => Err(why.fault()),
-        }
-    }
-
-    /// As [`Opener::open_there`], with what is the matter where it isn't opened.
+    /// Opens a database for a command that makes none, once no other process has the file open; or
+    /// says what is the matter: `CannotRead` if there is none.
     pub(crate) fn found(&self, name: &str) -> Result<Connection<FileStore<File>>, Trouble>
         ensures over { IfOk result (IsOver (image_at ⟦<Unknown as Start>⟧)) }
         ensures refused { RefusesFiles (image_at ⟦<Unknown as Start>⟧) result }
@@ -85,7 +73,7 @@ impl<'a> Opener<'a> {
         self.opened(name, 0)
     }
 
-    /// Opens a file, and tries again while another process has it.
+    /// Opens a database's file, and tries again while another process has it.
     fn opened(&self, name: &str, growth: u64) -> Result<Connection<FileStore<File>>, Trouble>
         ensures over { IfOk result (IsOver (image_at ⟦<Unknown as Start>⟧)) }
         ensures refused { RefusesFiles (image_at ⟦<Unknown as Start>⟧) result }

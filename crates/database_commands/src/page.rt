@@ -27,7 +27,7 @@ use site::{MAX_PAGE, Site};
 use sqlite::{Alter, Connection};
 use std::alloc::{AllocError, Global};
 
-/// What a database holds; the table is made where there is none.
+/// What a command's database holds; the inbox's table is made where there is none.
 fn own_contents<S: Alter + Drop>(alloc: Global, conn: Connection<S>) -> CommandEnd<S, Batch>
     ensures { ContentsEffect result.outcome (state S.Store conn) (state S.Store result.conn) }
 {
@@ -50,7 +50,7 @@ fn own_contents<S: Alter + Drop>(alloc: Global, conn: Connection<S>) -> CommandE
     }
 }
 
-/// The type of a batch keeps that each is an event with a number: whoever asks is told so here.
+/// A database's batch has a type that keeps that each is an event with a number: it is told here.
 fn tell_numbers(events: &Batch)
     ensures { AreNumbered events.now }
 {
@@ -225,7 +225,7 @@ pub fn scrub<S: Alter + Drop>(alloc: Global, conn: Connection<S>, from: u64) -> 
     CommandEnd { conn, outcome }
 }
 
-/// The site of some events.
+/// The site of some events of a database that a command opened.
 pub(crate) fn site_over(alloc: Global, mut events: Batch) -> Result<Site, AllocError>
     ensures { IfOk result (λ site. site ≡ append_new key_cmp [] events) }
 {
@@ -236,14 +236,14 @@ pub(crate) fn site_over(alloc: Global, mut events: Batch) -> Result<Site, AllocE
     }
 }
 
-/// The site of events that were to be had.
+/// The site of a database's events that were to be had.
 fn site_of(alloc: Global, events: Result<Batch, CommandFault>) -> Result<Site, CommandFault>
     ensures { IsMadeOf events (λ es site. site ≡ append_new key_cmp [] es) result }
 {
     Ok(site_over(alloc, events?)?)
 }
 
-/// The line of the summary of a site.
+/// The line of the summary of the site of a database that a command asks.
 fn summary_of(site: &mut Site) -> Result<Text, AllocError>
     ensures { IfOk result (SaysSummaryOf (set_of site.old)) }
 {
@@ -252,7 +252,7 @@ fn summary_of(site: &mut Site) -> Result<Text, AllocError>
     Ok(Text::from_string(line))
 }
 
-/// The line of the summary of the events.
+/// The line of the summary of the events of a database that a command asks.
 fn summary_line(alloc: Global, events: Result<Batch, CommandFault>) -> Result<Text, CommandFault>
     ensures { IsMadeOf events (λ es. SaysSummaryOf (set_of (append_new key_cmp [] es))) result }
 {
@@ -260,7 +260,7 @@ fn summary_line(alloc: Global, events: Result<Batch, CommandFault>) -> Result<Te
     Ok(summary_of(&mut site)?)
 }
 
-/// The line of a page of events behind the first so many.
+/// The line of a page of a database's events behind the first so many, for a command.
 fn arrivals_of(alloc: Global, events: &Batch, after: u64) -> Result<Text, AllocError>
     ensures { IfOk result (λ text. text ≡ batch_line (page events.now after max_page)) }
 {
@@ -268,7 +268,7 @@ fn arrivals_of(alloc: Global, events: &Batch, after: u64) -> Result<Text, AllocE
     batch_line(alloc, &page)
 }
 
-/// The line of a page of the events behind the first so many.
+/// The line of a page of a database's events behind the first so many that came, for a command.
 fn arrivals_line(
     alloc: Global,
     events: Result<Batch, CommandFault>,
@@ -280,7 +280,7 @@ fn arrivals_line(
     Ok(arrivals_of(alloc, &events, after)?)
 }
 
-/// All of the events behind the first so many.
+/// All of a database's events behind the first so many, for a command to print.
 fn arrived_pages(
     alloc: Global,
     events: Result<Batch, CommandFault>,
@@ -291,14 +291,14 @@ fn arrived_pages(
     Ok(EventPages::of_arrivals(alloc, events?, after))
 }
 
-/// All of the events.
+/// All of a database's events, for a command to print.
 fn all_pages(alloc: Global, events: Result<Batch, CommandFault>) -> Result<EventPages, CommandFault>
     ensures { IsMadeOf events (λ es pages. pages ≡ set_of (append_new key_cmp [] es)) result }
 {
     Ok(EventPages::of_all(alloc, site_of(alloc, events)?))
 }
 
-/// What a summary lacks of the events.
+/// What a summary lacks of a database's events, for a command to print.
 fn lacking_pages(
     alloc: Global,
     events: Result<Batch, CommandFault>,
@@ -311,7 +311,7 @@ fn lacking_pages(
     Ok(EventPages::of_delta(alloc, site, summary)?)
 }
 
-/// The line of a page of what a summary lacks of a site.
+/// The line of a page of what a summary lacks of a database's site, for a command.
 fn delta_of(alloc: Global, site: &Site, summary: &Summary, from: u64) -> Result<Text, AllocError>
     ensures { IfOk result (λ text.
         text ≡ batch_line (page (delta (set_of site.now) summary.now) from max_page)) }
@@ -320,7 +320,7 @@ fn delta_of(alloc: Global, site: &Site, summary: &Summary, from: u64) -> Result<
     batch_line(alloc, &page)
 }
 
-/// The line of a page of what a summary lacks of the events.
+/// The line of a page of what a summary lacks of a database's events, for a command.
 fn delta_line(
     alloc: Global,
     events: Result<Batch, CommandFault>,
@@ -334,7 +334,7 @@ fn delta_line(
     Ok(delta_of(alloc, &site, summary, from)?)
 }
 
-/// The line of a page of a site.
+/// The line of a page of a database's site, for a command.
 fn page_of(alloc: Global, site: &Site, from: u64) -> Result<Text, AllocError>
     ensures { IfOk result (λ text. text ≡ batch_line (page (set_of site.now) from max_page)) }
 {
@@ -342,7 +342,7 @@ fn page_of(alloc: Global, site: &Site, from: u64) -> Result<Text, AllocError>
     batch_line(alloc, &page)
 }
 
-/// The line of a page of the events.
+/// The line of a page of a database's events, for a command.
 fn page_line(
     alloc: Global,
     events: Result<Batch, CommandFault>,

@@ -32,7 +32,7 @@ impl<'a> Runs for Opener<'a> {
     }
 }
 
-/// Closes the database of a run, and answers what it came to.
+/// Closes the database of a run, opened by its name, and answers what it came to.
 fn closed(ended: RunEnd<FileStore<File>>) -> Result<Text, RunFault>
     ensures answer { result ≡ ended.outcome }
     ensures closes { Closes ended.conn }

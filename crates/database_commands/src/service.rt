@@ -48,7 +48,7 @@ struct NotServed<S: Alter> {
     fault: CommandFault,
 }
 
-/// Whether the texts are the same.
+/// Whether the texts are the same source of a database's service.
 pub(crate) fn is_same(one: &Text, other: &Text) -> bool
     ensures { IsTrue result ↔ (one.now ≡ other.now) }
 {
@@ -107,7 +107,7 @@ fn service_of<S: Alter + Drop>(
     }
 }
 
-/// Gives an order a status, and answers the event of its row.
+/// Gives an order of a database's service a status, and answers the event of its row.
 fn command<S: Alter>(
     service: &mut Service<S>,
     status: Status,
@@ -183,7 +183,7 @@ pub fn order<S: Alter + Drop>(
     }
 }
 
-/// Gives an order a status, and answers the line of the event of its row.
+/// Gives an order of a database's service a status, and answers its event's line.
 fn command_line<S: Alter>(
     alloc: Global,
     service: &mut Service<S>,
@@ -228,7 +228,7 @@ fn command_line<S: Alter>(
     }
 }
 
-/// The line of the event that the command has where it is accepted.
+/// The line of the event that a command to a database's service has where it is accepted.
 fn next_line<S: Alter>(
     alloc: Global,
     service: &Service<S>,
@@ -247,7 +247,7 @@ fn next_line<S: Alter>(
     }
 }
 
-/// The line of an event.
+/// The line of an event that a command over a database answers.
 fn said(alloc: Global, event: &Sequenced) -> Result<Text, CommandFault>
     ensures line { IfOk result (λ text. text ≡ event_line event.now) }
     ensures fault { IfErr result (λ f. f ≡ command.OutOfMemory) }
@@ -298,7 +298,7 @@ pub fn relay<S: Alter + Drop>(
     }
 }
 
-/// The line of what a relay at this mark sends in one step.
+/// The line of what a relay of a database's rows at this mark sends in one step.
 fn rows_line<S: Alter>(
     alloc: Global,
     service: &mut Service<S>,
@@ -329,7 +329,7 @@ fn rows_line<S: Alter>(
     }
 }
 
-/// Whether each of the events has a greater number.
+/// Whether each of the events of a database's service has a greater number.
 fn are_behind(events: &Batch, after: u64) -> bool
     ensures { result ≡ true → AllByRecursion (IsBehind after) events.now }
 {
@@ -370,7 +370,7 @@ pub fn relay_all<S: Alter + Drop>(
     }
 }
 
-/// All rows with a greater number of the service that is there.
+/// All rows with a greater number of the service that is there in a command's database.
 fn found_rows<S: Alter + Drop>(
     alloc: Global,
     conn: Connection<S>,
@@ -397,15 +397,15 @@ fn found_rows<S: Alter + Drop>(
     }
 }
 
-/// The mark to begin at: every row has a number above the base.
+/// The mark to relay a database's rows from: every row has a number above the base.
 fn first_mark(base: u64, after: u64) -> u64
     ensures { (base ≤ result) × (result - base ≡ after - base) }
 {
     if after < base { base } else { after }
 }
 
-/// The lines of all rows of a service with a greater number than `after`, 100 rows a line. Rows are
-/// numbered from the base on without a gap, so that behind a full page the mark is higher by 100.
+/// The lines of all rows of a database's service with a greater number than `after`, 100 a line.
+/// Rows are numbered from the base on without a gap: behind a full page the mark is 100 higher.
 fn row_lines<S: Alter>(
     alloc: Global,
     service: &mut Service<S>,
@@ -432,8 +432,8 @@ fn row_lines<S: Alter>(
     Err(CommandFault::Store)
 }
 
-/// Puts the next rows after a mark behind lines, as a line, and answers the mark behind them where
-/// they are a full page.
+/// Puts the next rows of a database's service after a mark behind lines, as a line, and answers the
+/// mark behind them where they are a full page.
 fn next_page<S: Alter>(
     alloc: Global,
     service: &mut Service<S>,
@@ -472,7 +472,7 @@ fn next_page<S: Alter>(
     }
 }
 
-/// Puts a page behind lines, as a line; of no rows nothing.
+/// Puts a page of a database's rows behind lines, as a line; of no rows nothing.
 #[tactic(auto, using(crate::proofs::RowLemmas::one_line))]
 fn push_page(alloc: Global, lines: &mut String, rows: &Batch) -> Result<(), AllocError>
     requires { length rows.now ≤ max_page }

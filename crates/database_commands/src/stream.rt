@@ -29,7 +29,7 @@ pub struct Streamed<S: Alter + Drop> {
     pub outcome: Result<u64, StreamFault>,
 }
 
-/// The fault that one of a stream over a table is.
+/// The fault of a command over a database that one of a stream over its table is.
 fn of_follow(fault: FollowFault) -> StreamFault
     ensures { result ≡ of_follow fault }
 {
@@ -40,7 +40,7 @@ fn of_follow(fault: FollowFault) -> StreamFault
     }
 }
 
-/// What a stream over a table came to, as that of a command.
+/// What a stream over a database's table came to, as that of a command.
 fn outcome_of(ended: Result<u64, FollowFault>) -> Result<u64, StreamFault>
     ensures { MatchResult ended (λ faults. result ≡ Ok faults) (λ f. result ≡ Err (of_follow f)) }
 {
@@ -50,8 +50,8 @@ fn outcome_of(ended: Result<u64, FollowFault>) -> Result<u64, StreamFault>
     }
 }
 
-/// Waits for the first bytes of an input, or for its end. Nothing is lost: what is read of the
-/// answer is what the input had.
+/// Waits for the first bytes of an input to a database, or for its end. Nothing is lost: what is
+/// read of the answer is what the input had.
 pub(crate) fn begun<'a, R: Read>(
     alloc: Global,
     input: &'a mut R,

@@ -50,7 +50,7 @@ pub fn tell_service<S: Alter + Drop>(
     made(alloc, conn, source, base.unwrap_or(BASE))
 }
 
-/// Makes a service with this source and base, and tells of it.
+/// Makes a database's service with this source and base, and tells of it.
 fn made<S: Alter + Drop>(
     alloc: Global,
     conn: Connection<S>,
@@ -101,7 +101,7 @@ fn made<S: Alter + Drop>(
     }
 }
 
-/// Tells of the service that is there.
+/// Tells of the service that is there in a command's database.
 pub(crate) fn told<S: Alter + Drop>(
     alloc: Global,
     conn: Connection<S>,
@@ -138,8 +138,8 @@ pub(crate) fn told<S: Alter + Drop>(
     }
 }
 
-/// The line of a service; where the source was named and the base is given, they have to be its
-/// own.
+/// The line of a database's service; where the source was named and the base is given, they have to
+/// be its own.
 fn line_of<S: Alter>(
     alloc: Global,
     service: &Service<S>,
@@ -169,7 +169,7 @@ fn line_of<S: Alter>(
     }
 }
 
-/// Whether a base is given, and another than this one.
+/// Whether a base is given, and another than this one of a database's service.
 fn is_other(given: Option<u64>, base: u64) -> bool
     ensures other { IsTrue result → IsOtherBase given base }
     ensures same { IsFalse result → IfSome given (λ n. base ≡ n) }

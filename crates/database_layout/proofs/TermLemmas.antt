@@ -1,12 +1,14 @@
 -- CHECKs and objects of a schema, from what is read of them.
-use Rattle.std.proofs.Common.{◌≡◌, ◌≤◌, ◌-◌, ℕ, suc, List, [], ◌∷◌, length, true, refl, sym, ap, ap₂, ◌∙◌, arith}
+use Rattle.std.proofs.Common.{get_or, slice_index_or, rules, ◌≡◌, ◌≤◌, ◌-◌, ℕ, suc, List, [], ◌∷◌, length, true, refl, sym, ap, ap₂, ◌∙◌, arith}
 use Rattle.sqlite_sql.specs.Term.{Term, op2}
 use Rattle.sqlite_sql.specs.declared.ops.BinaryOp.{BinaryOp}
 use Rattle.sqlite_schema.specs.declared.code.Op.{Op}
 use Rattle.sqlite_schema.specs.declared.schema.Index.{Index}
 use Rattle.sqlite_value.specs.declared.keys.Order.{Order}
 use Rattle.sqlite_schema.specs.Code.{term_to, term_in, terms_in}
-use Rattle.database_layout.specs.Tables.{key_index, key_places}
+use Rattle.sqlite_schema.specs.declared.schema.Table.{Table}
+use Rattle.database_layout.specs.Tables.{key_index, key_places, keyed}
+use Rattle.database_layout.specs.steps.Parts.{IsBareTable}
 
 -- a node with two operands, by what they are
 pub node_is : (ops : List Op) (at a b depth : ℕ) (found op : BinaryOp) (s t : Term) → found ≡ op → ((depth : ℕ) → term_to ops (suc depth) at ≡ op2 found (term_to ops depth a) (term_to ops depth b)) → term_to ops depth a ≡ s → term_to ops depth b ≡ t
@@ -31,3 +33,18 @@ index_is i name t named tree table columns order unique = go i.order named tree 
   where
     go : (o : Order) → i.name ≡ name → i.tree ≡ suc t → i.table ≡ t → i.columns ≡ key_places → i.order.digits ≡ 0 → i.is_unique ≡ true → i ≡ key_index name t
     go o a b c d e f = rw (sym a, sym b, sym c, sym d, sym e, sym f) refl
+
+-- the list of a table's keys, and that of their orders, where each has one
+pub one_key : (keys : List (List ℕ)) (key : List ℕ) → length keys ≡ 1 → key ≡ get_or keys 0 key → key ≡ key_places → keys ≡ key_places ∷ []
+one_key [] key long is same = absurd (omega (arith, long))
+one_key (k ∷ []) key long is same = ap (λ k. k ∷ []) (sym is ∙ same)
+one_key (k ∷ l ∷ keys) key long is same = absurd (omega (arith, long))
+
+pub one_order : (orders : List Order) → length orders ≡ 1 → (slice_index_or orders 0 (record { digits = 0 })).digits ≡ 0 → orders ≡ record { digits = 0 } ∷ []
+one_order [] long is = absurd (omega (arith, long))
+one_order (o ∷ []) long is = search rules
+one_order (o ∷ p ∷ orders) long is = absurd (omega (arith, long))
+
+-- the table of an inbox, from its parts
+pub keyed_is : (t : Table) (name : List ℕ) → t.name ≡ name → t.uniques ≡ key_places ∷ [] → t.orders ≡ record { digits = 0 } ∷ [] → t.checks ≡ [] → IsBareTable t → t ≡ keyed name t.columns t.tree
+keyed_is t name named uniques orders checks bare = search rules

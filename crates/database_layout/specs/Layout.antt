@@ -9,7 +9,7 @@ use Rattle.database_layout.specs.Tables.{inbox, inbox2, inbox2_index, inbox_inde
 use Rattle.database_layout.specs.declared.layout.Layout.{Layout}
 use Rattle.database_layout.specs.declared.layout.Layout.TheVariants.{Empty, Service, Inbox, InboxService, ServiceInbox, Inbox2, Inbox2Service, ServiceInbox2, Upgraded, UpgradedService, ServiceUpgraded, ShiftedUpgraded}
 
--- a schema of these tables and indexes
+-- a file's schema of these tables and indexes
 abbrev pub schema_of : List Table → List Index → Schema
 schema_of tables indexes = record { tables = tables; indexes = indexes; views = [] }
 
@@ -32,7 +32,7 @@ schema_in UpgradedService = schema_of (inbox2 2 ∷ service_tables 4) (inbox2_in
 schema_in ServiceUpgraded = schema_of (service_tables 0 ++ inbox2 5 ∷ []) (inbox2_index 5 ∷ [])
 schema_in ShiftedUpgraded = schema_of (service_tables 2 ++ inbox2 5 ∷ []) (inbox2_index 5 ∷ [])
 
--- a service is among them, and the tree of its first table
+-- a service is among the tables of the layout, and the tree of its first table
 abbrev pub HasService : Layout → Type 0
 HasService Service = ⊤
 HasService InboxService = ⊤
@@ -51,7 +51,7 @@ service_tree UpgradedService = 4
 service_tree ShiftedUpgraded = 2
 service_tree _ = 0
 
--- an inbox of version 1 is among them, or one of version 2, and its tree
+-- an inbox of version 1 is among the layout's tables, or one of version 2, and its tree
 abbrev pub HasInbox : Layout → Type 0
 HasInbox Inbox = ⊤
 HasInbox InboxService = ⊤
@@ -77,29 +77,29 @@ inbox_tree ServiceUpgraded = 5
 inbox_tree ShiftedUpgraded = 5
 inbox_tree _ = 0
 
--- the schema is one that our calls leave
+-- the schema of the file is one that our calls leave, with tables of ours alone
 abbrev pub IsOurs : Schema → Type 0
 IsOurs schema = (l : Layout) × (schema ≡ schema_in l)
 
--- a table has this name; SQL reads names without regard to the case of ASCII letters
+-- the schema has a table of this name; SQL reads names without regard to the case of ASCII letters
 abbrev pub has_table : Schema → List ℕ → Bool
 has_table schema name = is_some (table_named schema name)
 
--- a table has one of the names of a service's
+-- a table of the schema has one of the names of a service's
 abbrev pub has_name : Schema → Bool
 has_name schema = has_table schema (codes "service")
     || (has_table schema (codes "orders") || has_table schema (codes "outbox"))
 
--- one of these names has no table
+-- one of the names of a service's tables has no table in the schema
 abbrev pub lacks_name : Schema → Bool
 lacks_name schema = not (has_table schema (codes "service"))
     || (not (has_table schema (codes "orders")) || not (has_table schema (codes "outbox")))
 
--- a table has the name of an inbox, of either version
+-- a table of the schema has the name of an inbox, of either version
 abbrev pub has_inbox : Schema → Bool
 has_inbox schema = has_table schema (codes "inbox") || has_table schema (codes "inbox2")
 
--- an inbox of our form is among the tables, of either version
+-- an inbox of our form is among the tables of the schema, of either version
 abbrev pub HasInboxForm : List Table → Type 0
 HasInboxForm tables = (t : Table) × Has tables t × ((t ≡ inbox t.tree) ⊎ (t ≡ inbox2 t.tree))
 
@@ -111,7 +111,7 @@ GainsService Inbox2 l = l ≡ Inbox2Service
 GainsService Upgraded l = l ≡ UpgradedService
 GainsService _ l = ⊥
 
--- and once an inbox of version 2 is made where there is none
+-- and what a layout becomes once an inbox of version 2 is made where there is none
 abbrev pub GainsInbox2 : Layout → Layout → Type 0
 GainsInbox2 Empty l = l ≡ Inbox2
 GainsInbox2 Service l = l ≡ ServiceInbox2

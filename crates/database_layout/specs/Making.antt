@@ -10,7 +10,7 @@ use Rattle.database_layout.specs.Tables.{inbox, inbox2, inbox2_index, inbox_inde
 use Rattle.database_layout.specs.declared.layout.Layout.{Layout}
 use Rattle.database_layout.specs.declared.layout.Layout.TheVariants.{Inbox, InboxService, ServiceInbox, Upgraded, ServiceUpgraded, ShiftedUpgraded}
 
--- a statement in a transaction made the one schema of the other; the tables that both have keep
+-- CREATE or DROP in a transaction made the one schema of the other; the tables that both have keep
 -- their rows
 pub record Changes (before after : Schema) (kept : Schema) (old new : State) : Type 0 where
   pub schema : new.now.schema ≡ after
@@ -20,7 +20,7 @@ pub record Changes (before after : Schema) (kept : Schema) (old new : State) : T
   pub committed : new.committed ≡ old.committed
   pub mode : IsTrue new.in_transaction
 
--- these trees were made so, and are empty
+-- the trees of these tables were made by CREATE, and are empty
 pub record Makes (before after : Schema) (made : List ℕ) (old new : State) : Type 0 where
   pub changed : Changes before after before old new
   pub empty : AllByRecursion (λ t. new.now.trees t ≡ []) made
@@ -36,7 +36,7 @@ upgraded InboxService = ShiftedUpgraded
 upgraded ServiceInbox = ServiceUpgraded
 upgraded l = l
 
--- the schema while both are there
+-- the schema while the inboxes of both versions are there
 abbrev pub both_in : Layout → Schema
 both_in InboxService =
     schema_of (inbox 0 ∷ service_tables 2 ++ inbox2 5 ∷ [])

@@ -12,7 +12,7 @@ use Rattle.sqlite_schema.specs.declared.schema.Kind.{Kind}
 use Rattle.sqlite_schema.specs.declared.schema.Kind.TheVariants.{Integer, Text}
 use Rattle.sqlite_schema.specs.declared.schema.Table.{Table}
 
--- a column of a STRICT table, without a default, compared by bytes
+-- a column of a STRICT table of ours, without a default, compared by bytes
 abbrev pub column : List ℕ → Kind → Bool → Column
 column name kind not_null = record {
   name = name;
@@ -23,15 +23,15 @@ column name kind not_null = record {
   collation = Binary;
 }
 
--- the column of an INTEGER PRIMARY KEY, and one that is NOT NULL
+-- the column of an INTEGER PRIMARY KEY in a table of ours, and one that is NOT NULL
 abbrev pub key_column : List ℕ → Column
 key_column name = column name Integer false
 
 abbrev pub filled_column : List ℕ → Kind → Column
 filled_column name kind = column name kind true
 
--- a STRICT table whose first column is the INTEGER PRIMARY KEY, with these CHECKs and no UNIQUE;
--- its rows lie in this tree
+-- a STRICT table of ours whose first column is the INTEGER PRIMARY KEY, with these CHECKs and no
+-- UNIQUE; its rows lie in this tree
 abbrev pub table : List ℕ → ℕ → List Column → List Term → Table
 table name tree columns checks = record {
   name = name;
@@ -50,12 +50,12 @@ table name tree columns checks = record {
 
 -- ---- a service
 
--- the column holds 1, 2 or 3
+-- a CHECK of a table: the column holds 1, 2 or 3
 abbrev pub is_status : ℕ → Term
 is_status place = op2 And (op2 (Compare Ge Binary) (col 1 place) (lit (Int (pos 1))))
     (op2 (Compare Le Binary) (col 1 place) (lit (Int (pos 3))))
 
--- the source of a service, and the number before that of its first row; one row
+-- the table `service`: its source, and the number before that of its first row; one row
 abbrev pub service : ℕ → Table
 service tree = table (codes "service") tree
     (key_column (codes "one") ∷ filled_column (codes "source") Text
@@ -63,13 +63,13 @@ service tree = table (codes "service") tree
     (op2 (Compare Eq Binary) (col 1 0) (lit (Int (pos 1)))
     ∷ op2 (Compare Ge Binary) (col 1 3) (lit (Int (pos 0))) ∷ [])
 
--- the orders and the status of each
+-- the table `orders`: the orders and the status of each
 abbrev pub orders : ℕ → Table
 orders tree = table (codes "orders") tree
     (key_column (codes "number") ∷ filled_column (codes "state") Integer ∷ [])
     (is_status 2 ∷ [])
 
--- the accepted commands
+-- the table `outbox`: the accepted commands
 abbrev pub outbox : ℕ → Table
 outbox tree = table (codes "outbox") tree
     (key_column (codes "number") ∷ filled_column (codes "kind") Integer
@@ -78,12 +78,12 @@ outbox tree = table (codes "outbox") tree
 
 -- ---- an inbox
 
--- where a row has source, id and text, which its UNIQUE names
+-- where a row of the inbox has source, id and text, which its UNIQUE names
 abbrev pub key_places : List ℕ
 key_places = 2 ∷ 3 ∷ 5 ∷ []
 
--- the columns of version 1: the place in the table, and of the event the source, the id, the number
--- and the canonical text
+-- the columns of the inbox of version 1: the place in the table, and of the event the source, the
+-- id, the number and the canonical text
 abbrev pub inbox_columns : List Column
 inbox_columns =
     key_column (codes "place")
@@ -93,7 +93,7 @@ inbox_columns =
     ∷ filled_column (codes "body") Text
     ∷ []
 
--- those of version 2, which has the block of the number too
+-- the columns of the inbox of version 2, which has the block of the number too
 abbrev pub inbox2_columns : List Column
 inbox2_columns =
     key_column (codes "place")
@@ -104,22 +104,22 @@ inbox2_columns =
     ∷ filled_column (codes "block") Integer
     ∷ []
 
--- a table with this name and these columns, and UNIQUE (source, id, body)
+-- a table of the file with this name, these columns, and UNIQUE (source, id, body)
 abbrev pub keyed : List ℕ → List Column → ℕ → Table
 keyed name columns tree = record (table name tree columns []) {
   uniques = key_places ∷ [];
   orders = record { digits = 0 } ∷ [];
 }
 
--- the inbox of version 1, and of version 2
+-- the table of the inbox of version 1, and of version 2
 abbrev pub inbox : ℕ → Table
 inbox = keyed (codes "inbox") inbox_columns
 
 abbrev pub inbox2 : ℕ → Table
 inbox2 = keyed (codes "inbox2") inbox2_columns
 
--- the index with this name, which SQLite makes for the UNIQUE of a table; it lies in the tree
--- behind the table's
+-- the index with this name, which SQLite makes for the UNIQUE of an inbox's table; it lies in the
+-- tree behind the table's
 abbrev pub key_index : List ℕ → ℕ → Index
 key_index name tree = record {
   name = name;

@@ -13,6 +13,6 @@ create_outbox = codes "CREATE TABLE outbox (number INTEGER PRIMARY KEY, kind INT
 abbrev pub create_inbox2 : List ℕ
 create_inbox2 = codes "CREATE TABLE inbox2 (place INTEGER PRIMARY KEY, source TEXT NOT NULL, id TEXT NOT NULL, number INTEGER NOT NULL, body TEXT NOT NULL, block INTEGER NOT NULL, UNIQUE (source, id, body)) STRICT"
 
--- removes the table of version 1
+-- DROP: removes the table of the inbox of version 1
 abbrev pub drop_inbox : List ℕ
 drop_inbox = codes "DROP TABLE inbox"

@@ -13,7 +13,7 @@ use sqlite_sql::ops::{BinaryOp, CompareOp};
 use sqlite_value::keys::Collation;
 use sqlite_value::value::Value;
 
-/// Whether the term at a place is a column of the row.
+/// Whether the term at a place of a CHECK is a column of the row.
 fn is_place(ops: &[Op], at: usize, place: usize) -> bool
     ensures { IsTrue result → (depth : ℕ) → term_to ops.now (suc depth) at ≡ col 1 place }
 {
@@ -23,7 +23,7 @@ fn is_place(ops: &[Op], at: usize, place: usize) -> bool
     }
 }
 
-/// Whether the term at a place is a whole number.
+/// Whether the term at a place of a CHECK is a whole number.
 fn is_number(ops: &[Op], at: usize, number: i64) -> bool
     ensures { IsTrue result → (depth : ℕ) → term_to ops.now (suc depth) at ≡ lit (Int number) }
 {
@@ -41,7 +41,7 @@ struct Operands {
     right: usize,
 }
 
-/// The operands of the term at a place, where it has two.
+/// The operands of the term at a place of a CHECK, where it has two.
 fn binary_at(ops: &[Op], at: usize) -> Option<Operands>
     ensures { IfSome result (λ n. (depth : ℕ) → term_to ops.now (suc depth) at
         ≡ op2 n.op (term_to ops.now depth n.left) (term_to ops.now depth n.right)) }
@@ -56,7 +56,7 @@ fn binary_at(ops: &[Op], at: usize) -> Option<Operands>
     }
 }
 
-/// The one place of a list.
+/// The one place in a list of terms of a CHECK.
 fn single(places: &[usize]) -> Option<usize>
     ensures { IfSome result (λ at. places.now ≡ at ∷ []) }
 {
@@ -66,7 +66,7 @@ fn single(places: &[usize]) -> Option<usize>
     }
 }
 
-/// The two places of a list.
+/// The two places in a list of terms of CHECKs.
 fn pair(places: &[usize]) -> Option<(usize, usize)>
     ensures { IfSome result (λ p. places.now ≡ p.0 ∷ p.1 ∷ []) }
 {
@@ -76,7 +76,7 @@ fn pair(places: &[usize]) -> Option<(usize, usize)>
     }
 }
 
-/// Whether the term at a place compares a column with a number.
+/// Whether the term at a place of a CHECK compares a column with a number.
 fn is_compare(ops: &[Op], at: usize, op: CompareOp, place: usize, number: i64) -> bool
     ensures { IsTrue result → (depth : ℕ) → term_to ops.now (suc (suc depth)) at
         ≡ op2 (Compare op Binary) (col 1 place) (lit (Int number)) }
@@ -93,7 +93,7 @@ fn is_compare(ops: &[Op], at: usize, op: CompareOp, place: usize, number: i64) -
     is_number(ops, node.right, number)
 }
 
-/// Whether the term at a place says that a column holds 1, 2 or 3.
+/// Whether the term at a place of a CHECK says that a column holds 1, 2 or 3.
 fn is_status(ops: &[Op], at: usize, place: usize) -> bool
     ensures { IsTrue result → (depth : ℕ) → term_to ops.now (suc (suc (suc depth))) at
         ≡ is_status place }
@@ -110,7 +110,7 @@ fn is_status(ops: &[Op], at: usize, place: usize) -> bool
     is_compare(ops, node.right, CompareOp::Le, place, 3)
 }
 
-/// Whether the one CHECK says that the second column holds 1, 2 or 3.
+/// Whether the one CHECK of a table says that the second column holds 1, 2 or 3.
 pub(crate) fn checks_status(terms: &Terms) -> bool
     ensures { IsTrue result → terms.now ≡ is_status 2 ∷ [] }
 {
@@ -124,7 +124,7 @@ pub(crate) fn checks_status(terms: &Terms) -> bool
     is_status(ops, at, 2)
 }
 
-/// Whether the two CHECKs are those of `service`.
+/// Whether the two CHECKs of a table are those of `service`.
 pub(crate) fn checks_service(terms: &Terms) -> bool
     ensures { IsTrue result → terms.now ≡ (service 0).checks }
 {

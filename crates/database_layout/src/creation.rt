@@ -5,7 +5,7 @@ ghost use Rattle.sqlite.specs.Held.{state};
 ghost use Rattle.sqlite.specs.State.{ExecutesInside, HasCleanDisk, Survives};
 ghost use Rattle.database_layout.specs.Layout.{GainsInbox2, GainsService, HasInbox, inbox_tree, schema_in};
 ghost use Rattle.database_layout.specs.Making.{Changes, Makes, both_in, service_trees, upgraded};
-ghost use Rattle.database_layout.specs.Texts.{create_inbox2, create_orders, create_outbox, create_service, drop_inbox};
+ghost use Rattle.database_layout.specs.Texts.{create_orders, create_outbox, create_service, drop_inbox};
 ghost use Rattle.database_layout.specs.declared.layout.Layout.{Layout};
 ghost use Rattle.database_layout.specs.States.{KeepsCommitIfRefused};
 
@@ -59,22 +59,6 @@ fn create_outbox<S: Alter>(tx: &mut Transaction<'_, S>) -> Result<usize, Error>
     )
 }
 
-/// CREATE TABLE inbox2.
-fn create_inbox2<S: Alter>(tx: &mut Transaction<'_, S>) -> Result<usize, Error>
-    ensures same_reference { tx.new.conn.ghost_name ≡ tx.old.conn.ghost_name }
-    ensures runs { HasCleanDisk (state S.Store tx.new.conn.now)
-        → IsTrue (state S.Store tx.old.conn.now).in_transaction
-        → ExecutesInside 0 create_inbox2 []
-        (state S.Store tx.old.conn.now) (state S.Store tx.new.conn.now) result }
-    ensures survives { Survives
-        (state S.Store tx.old.conn.now) (state S.Store tx.new.conn.now) (λ _. ⊥) }
-{
-    tx.execute(
-        "CREATE TABLE inbox2 (place INTEGER PRIMARY KEY, source TEXT NOT NULL, id TEXT NOT NULL, number INTEGER NOT NULL, body TEXT NOT NULL, block INTEGER NOT NULL, UNIQUE (source, id, body)) STRICT",
-        &[],
-    )
-}
-
 /// DROP TABLE inbox.
 fn drop<S: Alter>(tx: &mut Transaction<'_, S>) -> Result<usize, Error>
     ensures same_reference { tx.new.conn.ghost_name ≡ tx.old.conn.ghost_name }
@@ -88,8 +72,8 @@ fn drop<S: Alter>(tx: &mut Transaction<'_, S>) -> Result<usize, Error>
     tx.execute("DROP TABLE inbox", &[])
 }
 
-/// Makes the three tables of a service, where the layout has room for them. A refusal may leave
-/// some of them in the transaction, which its caller then gives up.
+/// Makes the three tables of a service by CREATE, where the layout has room for them. A refusal may
+/// leave some in the transaction, which its caller then gives up.
 pub fn make_service<S: Alter>(tx: &mut Transaction<'_, S>) -> Result<(), Error>
     ensures same_reference { tx.new.conn.ghost_name ≡ tx.old.conn.ghost_name }
     ensures made { HasCleanDisk (state S.Store tx.new.conn.now)
@@ -109,7 +93,7 @@ pub fn make_service<S: Alter>(tx: &mut Transaction<'_, S>) -> Result<(), Error>
     Ok(())
 }
 
-/// Makes the table of an inbox of version 2, where there is room for it or one of version 1.
+/// Makes the table of an inbox of version 2 if the layout has room for it or one of version 1.
 pub fn make_inbox<S: Alter>(tx: &mut Transaction<'_, S>) -> Result<(), Error>
     ensures same_reference { tx.new.conn.ghost_name ≡ tx.old.conn.ghost_name }
     ensures made { HasCleanDisk (state S.Store tx.new.conn.now)
@@ -129,11 +113,14 @@ pub fn make_inbox<S: Alter>(tx: &mut Transaction<'_, S>) -> Result<(), Error>
     ensures survives { Survives
         (state S.Store tx.old.conn.now) (state S.Store tx.new.conn.now) (λ _. ⊥) }
 {
-    create_inbox2(tx)?;
+    tx.execute(
+        "CREATE TABLE inbox2 (place INTEGER PRIMARY KEY, source TEXT NOT NULL, id TEXT NOT NULL, number INTEGER NOT NULL, body TEXT NOT NULL, block INTEGER NOT NULL, UNIQUE (source, id, body)) STRICT",
+        &[],
+    )?;
     Ok(())
 }
 
-/// Drops the table of an inbox of version 1, where there is one of version 2 too.
+/// Drops the table of an inbox of version 1, where the file has one of version 2 too.
 pub fn drop_inbox<S: Alter>(tx: &mut Transaction<'_, S>) -> Result<(), Error>
     ensures same_reference { tx.new.conn.ghost_name ≡ tx.old.conn.ghost_name }
     ensures dropped { HasCleanDisk (state S.Store tx.new.conn.now)

@@ -7,13 +7,12 @@ ghost use Rattle.database_layout.specs.Tables.{column, inbox, inbox2, inbox2_col
 ghost use Rattle.database_layout.specs.steps.Parts.{IsBareTable};
 
 use crate::check::{checks_service, checks_status};
-use sqlite_items::Items;
 use sqlite_schema::code::Terms;
-use sqlite_schema::schema::{Column, Index, Kind, Schema, Stamps, Table};
-use sqlite_value::keys::{Collation, Order};
+use sqlite_schema::schema::{Column, Index, Kind, Schema, Table};
+use sqlite_value::keys::Collation;
 use sqlite_value::value::Value;
 
-/// Whether the value is NULL.
+/// Whether the value that a schema has as a column's default is NULL.
 fn is_null(value: &Value) -> bool
     ensures { IsTrue result ↔ (value.now ≡ Null) }
 {
@@ -23,7 +22,7 @@ fn is_null(value: &Value) -> bool
     }
 }
 
-/// Whether a column has this name and kind, and neither a default nor a collation of its own.
+/// Whether a table's column has this name and kind, and neither a default nor an own collation.
 fn is_column(found: &Column, name: &str, kind: Kind, not_null: bool) -> bool
     ensures { IsTrue result ↔ (found.now ≡ column name.now kind not_null) }
 {
@@ -35,22 +34,15 @@ fn is_column(found: &Column, name: &str, kind: Kind, not_null: bool) -> bool
         && found.collation == Collation::Binary
 }
 
-/// Whether there is no term.
+/// Whether a table's schema has no term, as for a default or a CHECK.
 fn are_none(terms: &Terms) -> bool
     ensures { IsTrue result ↔ (terms.now ≡ []) }
 {
     terms.roots.is_empty()
 }
 
-/// Whether no default reads the time.
-fn is_timeless(stamps: &Stamps) -> bool
-    ensures { IsTrue result ↔ (stamps.now ≡ record { places = []; terms = []; formats = [] }) }
-{
-    stamps.places.is_empty() && are_none(&stamps.terms) && stamps.formats.is_empty()
-}
-
-/// Whether the table's key is its first column, and nothing but its name, columns, UNIQUEs and
-/// CHECKs says more of it.
+/// Whether a table of the schema has its first column as key, and nothing but its name, columns,
+/// UNIQUEs and CHECKs says more of it.
 fn is_bare(table: &Table) -> bool
     ensures { IsTrue result ↔ IsBareTable table.now }
 {
@@ -58,11 +50,13 @@ fn is_bare(table: &Table) -> bool
         && table.primary.as_slice() == [0].as_slice()
         && table.references.is_empty()
         && table.computed.is_empty()
-        && is_timeless(&table.stamps)
+        && table.stamps.places.is_empty()
+        && are_none(&table.stamps.terms)
+        && table.stamps.formats.is_empty()
         && !table.is_counted
 }
 
-/// Whether a table has this name and no UNIQUE, and is otherwise as its columns and CHECKs say.
+/// Whether a schema's table has this name, no UNIQUE, and is else as its columns and CHECKs say.
 fn is_plain(found: &Table, name: &str) -> bool
     ensures { IsTrue result → (found.now
         ≡ table name.now found.now.tree found.now.columns found.now.checks) }
@@ -73,7 +67,7 @@ fn is_plain(found: &Table, name: &str) -> bool
         && is_bare(found)
 }
 
-/// Whether the columns are those of `service`.
+/// Whether the columns of a table are those of `service`.
 fn are_service_columns(columns: &[Column]) -> bool
     ensures { IsTrue result → columns.now ≡ (service 0).columns }
 {
@@ -87,7 +81,7 @@ fn are_service_columns(columns: &[Column]) -> bool
     }
 }
 
-/// Whether it is the table `service`, wherever its rows lie.
+/// Whether a table of the file is `service`, wherever its rows lie.
 fn is_service(found: &Table) -> bool
     ensures { IsTrue result → found.now ≡ service found.now.tree }
 {
@@ -96,7 +90,7 @@ fn is_service(found: &Table) -> bool
         && checks_service(&found.checks)
 }
 
-/// Whether the columns are those of `orders`.
+/// Whether the columns of a table are those of `orders`.
 fn are_orders_columns(columns: &[Column]) -> bool
     ensures { IsTrue result → columns.now ≡ (orders 0).columns }
 {
@@ -109,7 +103,7 @@ fn are_orders_columns(columns: &[Column]) -> bool
     }
 }
 
-/// Whether it is the table `orders`, wherever its rows lie.
+/// Whether a table of the file is `orders`, wherever its rows lie.
 fn is_orders(found: &Table) -> bool
     ensures { IsTrue result → found.now ≡ orders found.now.tree }
 {
@@ -118,7 +112,7 @@ fn is_orders(found: &Table) -> bool
         && checks_status(&found.checks)
 }
 
-/// Whether the columns are those of `outbox`.
+/// Whether the columns of a table are those of `outbox`.
 fn are_outbox_columns(columns: &[Column]) -> bool
     ensures { IsTrue result → columns.now ≡ (outbox 0).columns }
 {
@@ -133,7 +127,7 @@ fn are_outbox_columns(columns: &[Column]) -> bool
     }
 }
 
-/// Whether it is the table `outbox`, wherever its rows lie.
+/// Whether a table of the file is `outbox`, wherever its rows lie.
 fn is_outbox(found: &Table) -> bool
     ensures { IsTrue result → found.now ≡ outbox found.now.tree }
 {
@@ -142,7 +136,7 @@ fn is_outbox(found: &Table) -> bool
         && checks_status(&found.checks)
 }
 
-/// Whether they are the tables of a service, in trees from this one on.
+/// Whether a file's tables are the three of a service, in trees from this one on.
 pub(crate) fn are_service(first: &Table, second: &Table, third: &Table, tree: u32) -> bool
     requires { tree < 100 }
     ensures { IsTrue result → first.now ∷ second.now ∷ third.now ∷ [] ≡ service_tables tree }
@@ -155,45 +149,26 @@ pub(crate) fn are_service(first: &Table, second: &Table, third: &Table, tree: u3
         && is_outbox(third)
 }
 
-/// Whether the places are those of source, id and text.
+/// Whether the places in an inbox's UNIQUE are those of source, id and text.
 fn is_key(places: &[usize]) -> bool
     ensures { IsTrue result ↔ (places.now ≡ key_places) }
 {
     places == [2, 3, 5].as_slice()
 }
 
-/// Whether the list of keys has that of source, id and text alone.
-fn are_keys(keys: &[Items<usize>]) -> bool
-    ensures { IsTrue result ↔ (keys.now ≡ key_places ∷ []) }
-{
-    match keys {
-        [key] => is_key(key.as_slice()),
-        _ => false,
-    }
-}
-
-/// Whether the list of orders has just that of ascending columns.
-fn are_ascending(orders: &[Order]) -> bool
-    ensures { IsTrue result ↔ (orders.now ≡ (record { digits = 0 }) ∷ []) }
-{
-    match orders {
-        [order] => order.digits == 0,
-        _ => false,
-    }
-}
-
-/// Whether a table has this name and the UNIQUE of an inbox, and no CHECK.
+/// Whether a table of the file has this name and the UNIQUE of an inbox, and no CHECK.
 fn is_keyed(table: &Table, name: &str) -> bool
     ensures { IsTrue result ↔ (table.now ≡ keyed name.now table.now.columns table.now.tree) }
 {
-    table.name.as_slice() == name.as_bytes()
-        && are_keys(table.uniques.as_slice())
-        && are_ascending(table.orders.as_slice())
-        && are_none(&table.checks)
-        && is_bare(table)
+    match (table.uniques.as_slice(), table.orders.as_slice()) {
+        ([key], [order]) if order.digits == 0 && is_key(key.as_slice()) => {
+            table.name.as_slice() == name.as_bytes() && are_none(&table.checks) && is_bare(table)
+        }
+        _ => false,
+    }
 }
 
-/// Whether the columns are those of an inbox of version 1.
+/// Whether the columns of a table are those of an inbox of version 1.
 fn are_inbox_columns(columns: &[Column]) -> bool
     ensures { IsTrue result ↔ (columns.now ≡ inbox_columns) }
 {
@@ -209,7 +184,7 @@ fn are_inbox_columns(columns: &[Column]) -> bool
     }
 }
 
-/// Whether the columns are those of an inbox of version 2.
+/// Whether the columns of a table are those of an inbox of version 2.
 fn are_inbox2_columns(columns: &[Column]) -> bool
     ensures { IsTrue result ↔ (columns.now ≡ inbox2_columns) }
 {
@@ -226,21 +201,21 @@ fn are_inbox2_columns(columns: &[Column]) -> bool
     }
 }
 
-/// Whether it is the inbox of version 1, wherever its rows lie.
+/// Whether a table of the file is the inbox of version 1, wherever its rows lie.
 fn is_inbox(table: &Table) -> bool
     ensures { IsTrue result ↔ (table.now ≡ inbox table.now.tree) }
 {
     is_keyed(table, "inbox") && are_inbox_columns(table.columns.as_slice())
 }
 
-/// Whether it is the inbox of version 2, wherever its rows lie.
+/// Whether a table of the file is the inbox of version 2, wherever its rows lie.
 fn is_inbox2(table: &Table) -> bool
     ensures { IsTrue result ↔ (table.now ≡ inbox2 table.now.tree) }
 {
     is_keyed(table, "inbox2") && are_inbox2_columns(table.columns.as_slice())
 }
 
-/// Whether it is the index with this name that belongs to a table in this tree.
+/// Whether an index of the file has this name and belongs to a table in this tree.
 #[tactic(auto, using(crate::proofs::TermLemmas::index_is))]
 fn is_key_index(index: &Index, name: &str, tree: u32) -> bool
     requires { tree < 100 }
@@ -254,7 +229,7 @@ fn is_key_index(index: &Index, name: &str, tree: u32) -> bool
         && index.is_unique
 }
 
-/// Whether they are an inbox of version 1 in this tree, and its index.
+/// Whether table and index of a file are an inbox of version 1 in this tree, and its index.
 pub(crate) fn are_inbox(table: &Table, index: &Index, tree: u32) -> bool
     requires { tree < 100 }
     ensures table { IsTrue result → table.now ≡ inbox tree }
@@ -263,7 +238,7 @@ pub(crate) fn are_inbox(table: &Table, index: &Index, tree: u32) -> bool
     table.tree == tree && is_inbox(table) && is_key_index(index, "sqlite_autoindex_inbox_1", tree)
 }
 
-/// Whether they are an inbox of version 2 in this tree, and its index.
+/// Whether table and index of a file are an inbox of version 2 in this tree, and its index.
 pub(crate) fn are_inbox2(table: &Table, index: &Index, tree: u32) -> bool
     requires { tree < 100 }
     ensures table { IsTrue result → table.now ≡ inbox2 tree }
@@ -272,7 +247,7 @@ pub(crate) fn are_inbox2(table: &Table, index: &Index, tree: u32) -> bool
     table.tree == tree && is_inbox2(table) && is_key_index(index, "sqlite_autoindex_inbox2_1", tree)
 }
 
-/// Whether an inbox of our form is there, of either version, wherever its rows lie and whatever
+/// Whether the file has an inbox of our form, of either version, wherever its rows lie and whatever
 /// lies beside it.
 pub fn has_inbox_form(schema: &Schema) -> bool
     ensures { IsTrue result ↔ HasInboxForm schema.now.tables }

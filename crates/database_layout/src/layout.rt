@@ -38,7 +38,7 @@ pub enum Layout {
     ShiftedUpgraded,
 }
 
-/// An inbox alone.
+/// The layout of an inbox alone.
 fn of_one(table: &Table, index: &Index) -> Option<Layout>
     ensures { IfSome result (λ l.
         schema_of (table.now ∷ []) (index.now ∷ []) ≡ schema_in l) }
@@ -55,7 +55,7 @@ fn of_one(table: &Table, index: &Index) -> Option<Layout>
     None
 }
 
-/// A service alone.
+/// The layout of a service alone.
 fn of_three(a: &Table, b: &Table, c: &Table) -> Option<Layout>
     ensures { IfSome result (λ l.
         schema_of (a.now ∷ b.now ∷ c.now ∷ []) [] ≡ schema_in l) }
@@ -66,7 +66,7 @@ fn of_three(a: &Table, b: &Table, c: &Table) -> Option<Layout>
     None
 }
 
-/// An inbox, then a service.
+/// The layout of an inbox, then a service.
 fn of_inbox_first(a: &Table, b: &Table, c: &Table, d: &Table, index: &Index) -> Option<Layout>
     ensures { IfSome result (λ l.
         schema_of (a.now ∷ b.now ∷ c.now ∷ d.now ∷ []) (index.now ∷ []) ≡ schema_in l) }
@@ -83,7 +83,7 @@ fn of_inbox_first(a: &Table, b: &Table, c: &Table, d: &Table, index: &Index) -> 
     None
 }
 
-/// A service, then an inbox.
+/// The layout of a service, then an inbox.
 fn of_service_first(a: &Table, b: &Table, c: &Table, d: &Table, index: &Index) -> Option<Layout>
     ensures { IfSome result (λ l.
         schema_of (a.now ∷ b.now ∷ c.now ∷ d.now ∷ []) (index.now ∷ []) ≡ schema_in l) }
@@ -126,7 +126,7 @@ impl Layout {
         }
     }
 
-    /// Whether a service is among the tables.
+    /// Whether a service is among the tables of the layout.
     pub fn has_service(self) -> bool
         ensures { IsTrue result → HasService self }
     {
@@ -136,7 +136,7 @@ impl Layout {
         }
     }
 
-    /// Whether an inbox of version 1 is among them.
+    /// Whether an inbox of version 1 is among the layout's tables.
     pub fn has_inbox(self) -> bool
         ensures { IsTrue result → HasInbox self }
     {
@@ -146,7 +146,7 @@ impl Layout {
         )
     }
 
-    /// Whether an inbox of version 2 is among them.
+    /// Whether an inbox of version 2 is among the layout's tables.
     pub fn has_inbox2(self) -> bool
         ensures { IsTrue result → HasInbox2 self }
     {
@@ -185,7 +185,7 @@ impl Layout {
     }
 }
 
-/// Whether a table has one of the three names of a service's, in whatever form.
+/// Whether a table of the file has one of the three names of a service's, in whatever form.
 pub fn has_name(schema: &Schema) -> bool
     ensures { result ≡ has_name schema.now }
 {
@@ -194,7 +194,7 @@ pub fn has_name(schema: &Schema) -> bool
         || schema.table_named(b"outbox").is_some()
 }
 
-/// Whether one of the three names of a service's has no table.
+/// Whether the file lacks a table of one of the three names of a service's.
 pub fn lacks_name(schema: &Schema) -> bool
     ensures { result ≡ lacks_name schema.now }
 {
@@ -203,7 +203,7 @@ pub fn lacks_name(schema: &Schema) -> bool
         || schema.table_named(b"outbox").is_none()
 }
 
-/// Whether a table has the name of an inbox, of either version, in whatever form.
+/// Whether a table of the file has the name of an inbox, of either version, in whatever form.
 pub fn has_inbox(schema: &Schema) -> bool
     ensures { result ≡ has_inbox schema.now }
 {

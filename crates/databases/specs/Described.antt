@@ -13,11 +13,11 @@ use Rattle.databases.specs.Held.{Holds}
 use Rattle.databases.specs.Print.{database_line, service_line}
 use Rattle.databases.specs.Service.{IsServiceTold}
 
--- the events have so many sources: those of the summary that digests their set
+-- a database's events have so many sources: those of the summary that digests their set
 abbrev pub CountsSources : List EventValue → ℕ → Type 0
 CountsSources events n = (s : Sources) × Digests (set_of events) s × (n ≡ length (sources_of s))
 
--- the number of a version
+-- the number of a version of a database's inbox
 abbrev pub version_number : Version → ℕ
 version_number One = 1
 version_number Two = 2
@@ -51,13 +51,13 @@ pub record Describes (name : List ℕ) (db : Database) (text : List ℕ) : Type 
   pub service : TellsOfService db rest
   pub both : text ≡ first ++ rest
 
--- the text tells of some service, or is empty
+-- the text tells of some service of a database, or is empty
 abbrev pub SaysSomeService : List ℕ → Type 0
 SaysSomeService text = (text ≡ []) ⊎ ((source : List ℕ) × (base : ℕ) × (orders : ℕ) × (rows : ℕ)
     × (text ≡ service_line source base orders rows))
 
--- so many events may be told with a version of this number: it is that of a version, or 0, where
--- there is no inbox, and then there are none
+-- so many events of a database may be told with a version of this number: it is that of a version,
+-- or 0, where there is no inbox, and then there are none
 abbrev pub IsToldVersion : ℕ → ℕ → Type 0
 IsToldVersion events n = ((n ≡ 0) × (events ≡ 0)) ⊎ ((v : Version) × (n ≡ version_number v))
 

@@ -8,12 +8,12 @@ use Rattle.event_json.specs.BatchText.{batch_text}
 pub use Rattle.event_json.specs.BatchText.{batch_line, event_line}
 pub use Rattle.coverage.specs.SummaryText.{WithoutLineEnd}
 
--- how many events were read, how many of them were new, and how many were there
+-- how many events were read for a database, how many of them were new, and how many were there
 abbrev pub counts_line : ℕ → ℕ → List ℕ
 counts_line read fresh = codes "read " ++ decimal read ++ codes " new " ++ decimal fresh
     ++ codes " repeated " ++ decimal (read - fresh) ++ 10 ∷ []
 
--- {"base":B,"orders":N,"rows":N,"source":S}
+-- {"base":B,"orders":N,"rows":N,"source":S}, which tells of a database's service
 abbrev pub service_data : List ℕ → ℕ → ℕ → ℕ → Data
 service_data source base orders rows =
     object (member (codes "base") (number (unsigned base))
@@ -27,7 +27,7 @@ unfoldable pub service_line : List ℕ → ℕ → ℕ → ℕ → List ℕ
 service_line source base orders rows =
     compact_text (service_data source base orders rows) ++ 10 ∷ []
 
--- {"db":DB,"events":N,"sources":N,"version":V}
+-- {"db":DB,"events":N,"sources":N,"version":V}, which tells of a database's inbox
 abbrev pub database_data : List ℕ → ℕ → ℕ → ℕ → Data
 database_data db events sources version =
     object (member (codes "db") (string db)

@@ -9,7 +9,7 @@ use Rattle.outbox.specs.Service.{IsService}
 use Rattle.database_layout.specs.Layout.{has_name}
 use Rattle.databases.specs.Print.{service_line}
 
--- the text tells of a service with this source and base, which accepted these commands
+-- the text tells of a database's service with this source and base, which accepted these commands
 abbrev pub TellsService : List ℕ → ℕ → List Accepted → List ℕ → Type 0
 TellsService source base commands text =
     text ≡ service_line source base (length (orders_of commands)) (length commands)
@@ -35,7 +35,7 @@ pub record IsServiceTold (db : Database) (text : List ℕ) : Type 0 where
   pub service : IsService db source base commands
   pub line : TellsService source base commands text
 
--- a base is given, and it is another than this one
+-- a base is given, and it is another than this one of a database's service
 abbrev pub IsOtherBase : Option ℕ → ℕ → Type 0
 IsOtherBase None base = ⊥
 IsOtherBase (Some given) base = base ≢ given
@@ -51,8 +51,8 @@ pub record HasOtherBase (is_named : Bool) (given : List ℕ) (start : Option ℕ
   pub meant : IsTrue is_named → source ≡ given
   pub other : IsOtherBase start base
 
--- the text tells of some service; where the source was named, it is that one, and so is the base
--- that is given
+-- the text tells of some service of a database; where the source was named, it is that one, and so
+-- is the base that is given
 pub record SaysService (is_named : Bool) (given : List ℕ) (start : Option ℕ) (text : List ℕ)
     : Type 0 where
   pub source : List ℕ

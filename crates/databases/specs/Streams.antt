@@ -23,7 +23,7 @@ abbrev pub HoldsTurns : List Turn → Database → Database → Type 0
 HoldsTurns turns old new = (held : List EventValue) → Holds old held
     → (events : List EventValue) × IsInbox new events × AreKept held turns events
 
--- the inbox couldn't be had: nothing was read and nothing written, and the database is as it was
+-- a database's inbox couldn't be had: nothing was read or written, and the database is as it was
 pub record StaysUnread (left left' out out' : Option (List ℕ)) (old new : State) (f : StreamFault)
     : Type 0 where
   pub why : TableFault
@@ -36,8 +36,8 @@ pub record StaysUnread (left left' out out' : Option (List ℕ)) (old new : Stat
   pub foreign : why ≡ Foreign → HasCleanDisk new → IsNoInbox old.now
   pub both : has_both old.now.schema ≡ true → why ≡ Foreign
 
--- what a crash leaves before the first turn: what it could leave before the stream, or a database
--- that holds what was held
+-- what a crash leaves of a database before the first turn: what it could leave before the stream,
+-- or a database that holds what was held
 abbrev pub LeavesUnturned : State → Trees → Type 0
 LeavesUnturned old trees = old.may_leave trees ⊎ MayHold old.now trees
 
@@ -50,7 +50,7 @@ pub record StopsInto (start : StreamPlace) (out : Option (List ℕ)) (old new : 
   pub stops : StopsStream start (LeavesUnturned old) out new why
       (λ turns mid. HasCleanDisk new → HoldsTurns turns old.now mid)
 
--- what of the input is acknowledged where the stream ends for this fault
+-- what of the input is acknowledged where the stream into a database ends for this fault
 abbrev pub AcknowledgesUntil : StreamFault → Option (List ℕ) → Option (List ℕ) → Option (List ℕ)
     → Type 0
 AcknowledgesUntil (stream.Input why) old out out' = TellsSome old out out'

@@ -13,7 +13,7 @@ use Rattle.databases.specs.declared.fault.CommandFault.TheVariants as command
 use Rattle.databases.specs.declared.trouble.Trouble.{Trouble}
 use Rattle.databases.specs.declared.trouble.Trouble.TheVariants as trouble
 
--- the fault of a command that needs the database
+-- the fault of a command that needs the database in trouble
 abbrev pub fault_of : Trouble → CommandFault
 fault_of trouble.OutOfMemory = command.OutOfMemory
 fault_of trouble.CannotRead = command.CannotRead
@@ -21,7 +21,7 @@ fault_of trouble.Foreign = command.Foreign
 fault_of trouble.Cache = command.Cache
 fault_of _ = command.Store
 
--- the name of the fault, as a refused command prints it
+-- the name of the fault of a database in trouble, as a refused command prints it
 abbrev pub name_of_command_fault : CommandFault → List ℕ
 name_of_command_fault command.OutOfMemory = codes "out of memory"
 name_of_command_fault command.CannotRead = codes "cannot read"
@@ -29,7 +29,7 @@ name_of_command_fault command.Foreign = codes "Foreign"
 name_of_command_fault command.Cache = codes "Cache"
 name_of_command_fault _ = codes "Store"
 
--- what is the matter, and what can be done
+-- what is the matter with a database, and what can be done
 abbrev pub hint_of_trouble : Trouble → List ℕ
 hint_of_trouble trouble.OutOfMemory = codes "memory ran out"
 hint_of_trouble trouble.NoFile =
@@ -50,13 +50,13 @@ hint_of_trouble trouble.Foreign =
     codes "its tables or rows aren't as site leaves them: take the events from a copy, or from another site by delta"
 hint_of_trouble trouble.Cache = codes "the variable SITE_CACHE_MIB isn't a whole number from 1 to 1048576"
 
--- what a fault is of a look at an open database
+-- what trouble with a database a fault is of a look at it, while it is open
 abbrev pub of_fault : CommandFault → Trouble
 of_fault command.OutOfMemory = trouble.OutOfMemory
 of_fault command.Foreign = trouble.Foreign
 of_fault _ = trouble.Store
 
--- what an error of the database is that is met when it is opened
+-- what trouble an error of the database is that is met when it is opened
 abbrev pub of_code : ErrorCode → Trouble
 of_code code.OutOfMemory = trouble.OutOfMemory
 of_code code.DatabaseBusy = trouble.Busy
@@ -70,7 +70,7 @@ abbrev pub of_error : Error → Trouble
 of_error (SqliteFailure c) = of_code c
 of_error _ = trouble.Store
 
--- what a refusal of the operating system is
+-- what trouble with a database a refusal of the operating system is
 abbrev pub of_kind : ErrorKind → Trouble
 of_kind kind.OutOfMemory = trouble.OutOfMemory
 of_kind _ = trouble.System
@@ -83,14 +83,14 @@ IsSystemTrouble trouble.Store = ⊥
 IsSystemTrouble trouble.Foreign = ⊥
 IsSystemTrouble _ = Unit {0}
 
--- a file of a name isn't opened for this: the name is a file's, and the file may be looked at
+-- a database's file isn't opened for this: the name is a file's, and the file may be looked at
 abbrev pub IsOfOpening : Trouble → Type 0
 IsOfOpening trouble.NoFile = ⊥
 IsOfOpening trouble.CannotRead = ⊥
 IsOfOpening trouble.Foreign = ⊥
 IsOfOpening _ = Unit {0}
 
--- {"db":DB,"fault":NAME,"hint":WORDS}
+-- {"db":DB,"fault":NAME,"hint":WORDS}, which says why nothing is told of a database
 abbrev pub trouble_data : List ℕ → List ℕ → List ℕ → Data
 trouble_data db fault words =
     object (member (codes "db") (string db) (member (codes "fault") (string fault)

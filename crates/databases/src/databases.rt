@@ -32,8 +32,8 @@ use std::io::{Read, Write};
 /// given. What it is for what the file held, those of [`perform_named`] and its like say: here a
 /// command is given to a database in the same way, where nothing is known of its files.
 pub trait Databases {
-    /// Keeps the events that the inbox lacks, and answers the line of how many were new. The watch is
-    /// told meanwhile.
+    /// Keeps the events that a database's inbox lacks, and answers the line of how many were new.
+    /// The watch is told meanwhile.
     fn take<W: Watch>(
         &self,
         alloc: Global,
@@ -45,8 +45,8 @@ pub trait Databases {
             × (text ≡ counts_line (length events.now) fresh)) }
         ensures fault { IfErr result (OrOfNamed IsUntold) };
 
-    /// Keeps the events of each line of an input, and acknowledges it on `out` behind that; how many
-    /// lines were refused.
+    /// Keeps in a database the events of each line of an input, and acknowledges it on `out` behind
+    /// that; how many lines were refused.
     fn follow<R: Read, W: Write>(
         &self,
         alloc: Global,
@@ -59,7 +59,7 @@ pub trait Databases {
         ensures until { IfErr result (λ f. AcknowledgesUntil f
             (R.remaining input.old) (W.contents out.old) (W.contents out.new)) };
 
-    /// The events that the inbox holds. A file that isn't there is not made: `CannotRead`.
+    /// The events that a database's inbox holds. A file that isn't there is not made: `CannotRead`.
     fn events(&self, alloc: Global, name: &str) -> Result<Batch, CommandFault>
         ensures answer { IfOk result AreNumbered }
         ensures fault { IfErr result (OrOfNamed IsUntold) };
@@ -69,8 +69,8 @@ pub trait Databases {
         ensures answer { IfOk result SaysSummary }
         ensures fault { IfErr result (OrOfNamed IsUntold) };
 
-    /// The inbox's events that a summary lacks, in key order, to be printed page after page. A file
-    /// that isn't there is not made: `CannotRead`.
+    /// The events of a database's inbox that a summary lacks, in key order, to be printed page
+    /// after page. A file that isn't there is not made: `CannotRead`.
     fn delta_pages(
         &self,
         alloc: Global,
@@ -80,13 +80,13 @@ pub trait Databases {
         ensures answer { IfOk result (HasDelta summary) }
         ensures fault { IfErr result (OrOfNamed IsUntold) };
 
-    /// The inbox's events in key order, to be printed page after page. A file that isn't there is not
-    /// made: `CannotRead`.
+    /// The events of a database's inbox in key order, to be printed page after page. A file that
+    /// isn't there is not made: `CannotRead`.
     fn scrub_pages(&self, alloc: Global, name: &str) -> Result<EventPages, CommandFault>
         ensures answer { IfOk result HasEvents }
         ensures fault { IfErr result (OrOfNamed IsUntold) };
 
-    /// The page of the inbox's events that a summary lacks, from a place of key order on.
+    /// The page of a database's events that a summary lacks, from a place of key order on.
     fn delta(
         &self,
         alloc: Global,
@@ -97,19 +97,19 @@ pub trait Databases {
         ensures answer { IfOk result (SaysDelta summary.now from) }
         ensures fault { IfErr result (OrOfNamed IsUntold) };
 
-    /// The page of the inbox's events from a place of key order on.
+    /// The page of a database's events from a place of key order on.
     fn scrub(&self, alloc: Global, name: &str, from: u64) -> Result<Text, CommandFault>
         ensures answer { IfOk result (SaysPage from) }
         ensures fault { IfErr result (OrOfNamed IsUntold) };
 
-    /// The page of the inbox's events behind the first so many that came. A file that isn't there is
-    /// not made: `CannotRead`.
+    /// The page of a database's events behind the first so many that came. A file that isn't there
+    /// is not made: `CannotRead`.
     fn arrivals(&self, alloc: Global, name: &str, after: u64) -> Result<Text, CommandFault>
         ensures answer { IfOk result (SaysArrivals after) }
         ensures fault { IfErr result (OrOfNamed IsUntold) };
 
-    /// The inbox's events behind the first so many that came, to be printed page after page. A file
-    /// that isn't there is not made: `CannotRead`.
+    /// A database's events behind the first so many that came, to be printed page after page. A
+    /// file that isn't there is not made: `CannotRead`.
     fn arrival_pages(
         &self,
         alloc: Global,
@@ -119,8 +119,8 @@ pub trait Databases {
         ensures answer { IfOk result (HasArrived after) }
         ensures fault { IfErr result (OrOfNamed IsUntold) };
 
-    /// Gives an order of the file's service a status, and answers the line of the event that says so.
-    /// The service is made with this source where there is none.
+    /// Gives an order of a database's service a status, and answers the line of the event that says
+    /// so. The service is made with this source where there is none.
     fn order(
         &self,
         alloc: Global,
@@ -138,8 +138,8 @@ pub trait Databases {
             (record { status = status; order = order; at = at.now })) }
         ensures fault { IfErr result (OrOfNamed IsOfOrder) };
 
-    /// The line that tells of the file's service, which is made with this source and base where there
-    /// is none.
+    /// The line that tells of a database's service, which is made with this source and base where
+    /// there is none.
     fn service(
         &self,
         alloc: Global,
@@ -153,14 +153,14 @@ pub trait Databases {
         ensures answer { IfOk result (SaysService is_source_named source.now base) }
         ensures fault { IfErr result (OrOfNamed IsNoOrders) };
 
-    /// The lines that tell what the file is: its inbox and its service. A file that isn't there is not
-    /// made: `CannotRead`.
+    /// The lines that tell what a database is: its inbox and its service. A file that isn't there
+    /// is not made: `CannotRead`.
     fn describe(&self, alloc: Global, name: &str) -> Result<Text, Trouble>
         ensures answer { IfOk result (SaysDatabase name.now) }
         ensures none { IsNoFile name.now → IsErrOf result trouble.NoFile }
         ensures name { IfErr result (λ why. why ≡ trouble.NoFile → IsNoFile name.now) };
 
-    /// The page of the rows of the file's service behind a number, and whether the service was made.
+    /// The page of the rows of a database's service behind a number, and whether it was made.
     fn relay(
         &self,
         alloc: Global,
@@ -172,13 +172,13 @@ pub trait Databases {
         ensures answer { IfOk result (λ r. SaysRows after r.text) }
         ensures fault { IfErr result (OrOfNamed IsNoRows) };
 
-    /// All rows of the file's service behind a number, in pages. A file that isn't there is not made:
-    /// `CannotRead`.
+    /// All rows of a database's service behind a number, in pages. A file that isn't there is not
+    /// made: `CannotRead`.
     fn relay_all(&self, alloc: Global, name: &str, after: u64) -> Result<Text, CommandFault>
         ensures answer { IfOk result (SaysAllRows after) }
         ensures fault { IfErr result (OrOfNamed IsUntold) };
 
-    /// Whether there is something of that name, so that no command makes it.
+    /// Whether there is something of a database's name, so that no command makes it.
     fn is_there(&self, name: &str) -> bool;
 
     /// The same databases, each of which is tried again where another process has it open, for so

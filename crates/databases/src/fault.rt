@@ -62,7 +62,7 @@ impl<T: Drop> From<AllocFailed<T>> for CommandFault {
     }
 }
 
-/// The fault that one of an inbox's table is.
+/// The fault of a command over a database that one of an inbox's table is.
 pub fn of_table(fault: TableFault) -> CommandFault
     ensures { result ≡ of_table fault }
 {
@@ -73,7 +73,7 @@ pub fn of_table(fault: TableFault) -> CommandFault
     }
 }
 
-/// The fault that one of a service is.
+/// The fault of a command over a database that one of a service is.
 pub fn of_outbox(fault: OutboxFault) -> CommandFault
     ensures { result ≡ of_outbox fault }
 {
@@ -88,8 +88,8 @@ pub fn of_outbox(fault: OutboxFault) -> CommandFault
     }
 }
 
-/// The fault that one of a relay's step is. A step in the program's own thread is refused by a
-/// route, by the database, or for want of memory.
+/// The fault of a command over a database that one of a relay's step is. A step in the program's
+/// own thread is refused by a route, by the database, or for want of memory.
 pub fn of_relay(fault: RelayFault) -> CommandFault
     ensures { result ≡ of_relay fault }
 {

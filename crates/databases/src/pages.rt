@@ -59,7 +59,7 @@ impl Model for EventPages {
 }
 
 impl EventPages {
-    /// All events but the first so many, in their order.
+    /// All events of a database's list but the first so many, in their order, for pages.
     pub fn of_arrivals(alloc: Global, events: Batch, after: u64) -> EventPages
         ensures { result ≡ drop after events }
     {
@@ -70,7 +70,7 @@ impl EventPages {
         }
     }
 
-    /// All events of a site, in key order.
+    /// All events of a database's site, in key order, for its pages.
     pub fn of_all(alloc: Global, site: Site) -> EventPages
         ensures { result ≡ set_of site }
     {
@@ -85,7 +85,7 @@ impl EventPages {
         }
     }
 
-    /// The events of a site that a summary lacks, in key order.
+    /// The events of a database's site that a summary lacks, in key order, for its pages.
     pub fn of_delta(alloc: Global, site: Site, peer: Summary) -> Result<EventPages, AllocError>
         ensures { IfOk result (λ pages. pages ≡ delta (set_of site) peer) }
     {
@@ -101,7 +101,7 @@ impl EventPages {
         })
     }
 
-    /// So many pages at most are still to come: those below that count are all.
+    /// So many pages of a database at most are still to come: those below that count are all.
     pub fn most(&self) -> u64
         ensures { pages_text self.now ≡ pages_below result self.now }
     {
@@ -111,8 +111,8 @@ impl EventPages {
         }
     }
 
-    /// The next events, 100 of them or all that are left, as the line of a batch; none where
-    /// nothing is left. Time in proportion to the events that are passed, and to the page.
+    /// The next events of a database's pages, 100 or all that are left, as the line of a batch;
+    /// none if none are left. Time in proportion to the events that are passed, and to the page.
     pub fn next_line(&mut self) -> Result<Option<Text>, AllocError>
         ensures line { IfOk result (λ line. line ≡ first_page self.old) }
         ensures rest { OnOk result (self.new ≡ drop max_page self.old) }
@@ -129,7 +129,7 @@ impl EventPages {
     }
 }
 
-/// The page of the events of a list behind the first so many, at most 100.
+/// The page of a database's events of a list behind the first so many, at most 100.
 pub fn page_behind(alloc: Global, events: &Batch, passed: u64) -> Result<Batch, AllocError>
     ensures { IfOk result (λ batch. batch ≡ page events.now passed max_page) }
 {
@@ -141,7 +141,7 @@ pub fn page_behind(alloc: Global, events: &Batch, passed: u64) -> Result<Batch, 
     Ok(batch)
 }
 
-/// The next page behind a place, and the place to go on from.
+/// The next page of a database's events behind a place, and the place to go on from.
 fn part_of(alloc: Global, events: &PagedEvents, place: u64) -> Result<DeltaPart, AllocError>
     requires { ArePaged events.now place }
     ensures events { IfOk result (λ part. part.events ≡ take max_page (events_left events.now place)) }
@@ -155,7 +155,7 @@ fn part_of(alloc: Global, events: &PagedEvents, place: u64) -> Result<DeltaPart,
     }
 }
 
-/// The next page of the events that came, and the place to go on from.
+/// The next page of a database's events in arrival order, and the place to go on from.
 fn arrivals_behind(alloc: Global, arrived: &Batch, place: u64) -> Result<DeltaPart, AllocError>
     ensures events { IfOk result (λ part. part.events ≡ take max_page (drop place arrived.now)) }
     ensures rest { IfOk result (λ part. drop part.next arrived.now
@@ -167,7 +167,7 @@ fn arrivals_behind(alloc: Global, arrived: &Batch, place: u64) -> Result<DeltaPa
     Ok(DeltaPart { events, next })
 }
 
-/// The next page behind a place of key order, and the place to go on from.
+/// A database's next page behind a place of key order, and the place to go on from.
 fn part_behind(
     site: &Site,
     compared: &Option<Compared>,

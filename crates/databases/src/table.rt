@@ -13,8 +13,8 @@ use inbox_table::{Loaded, NotMade, Table, Unwatched};
 use sqlite::{Alter, Connection};
 use std::alloc::Global;
 
-/// The table of a database with its events, made where there is none; one of version 1 gives way to
-/// one of version 2.
+/// The inbox's table of a database with its events, made where there is none; one of version 1
+/// gives way to one of version 2.
 pub fn load_table<S: Alter + Drop>(
     alloc: Global,
     conn: Connection<S>,

@@ -1,25 +1,28 @@
 //! The printed texts, and the file of a summary.
-ghost use Rattle.std.specs.Prelude.{◌≡◌, IfOk, OnOk, string_bytes};
+ghost use Rattle.std.specs.Prelude.{◌≡◌, IfErr, IfOk, OnOk, string_bytes};
 ghost use Rattle.serde_json.specs.Written.{compact_text};
 ghost use Rattle.databases.specs.Print.{WithoutLineEnd, batch_line, counts_line, database_data, database_line, event_line, service_data, service_line};
 ghost use Rattle.databases.specs.Trouble.{trouble_data};
+ghost use Rattle.databases.specs.declared.fault.CommandFault.TheVariants.{OutOfMemory};
 ghost use Rattle.databases.specs.steps.Tokens.{AddsTokens, number_member, service_tokens, text_member, trouble_tokens};
 
+use crate::fault::CommandFault;
 use attributes::{Batch, Sequenced, Text};
 use event_json::write_sequenced;
 use json::Writer;
 use std::alloc::{AllocError, Global};
 
-/// How many events were read, and how many of them were new.
-pub fn counts_line(alloc: Global, read: u64, fresh: u64) -> Result<Text, AllocError>
-    ensures { IfOk result (λ text. text ≡ counts_line read fresh) }
+/// The line of how many events were read for a database, and how many of them were new.
+pub fn counts_line(alloc: Global, read: u64, fresh: u64) -> Result<Text, CommandFault>
+    ensures line { IfOk result (λ text. text ≡ counts_line read fresh) }
+    ensures fault { IfErr result (λ f. f ≡ OutOfMemory) }
 {
     let repeated = read.saturating_sub(fresh);
     let line = format!(in alloc; "read {read} new {fresh} repeated {repeated}\n")?;
     Ok(Text::from_string(line))
 }
 
-/// A batch as one line.
+/// A database's batch as one line.
 pub fn batch_line(alloc: Global, batch: &Batch) -> Result<Text, AllocError>
     ensures { IfOk result (λ text. text ≡ batch_line batch.now) }
 {
@@ -28,7 +31,7 @@ pub fn batch_line(alloc: Global, batch: &Batch) -> Result<Text, AllocError>
     Ok(Text::from_string(line))
 }
 
-/// An event as one line.
+/// An event of a database as one line.
 pub fn event_line(alloc: Global, event: &Sequenced) -> Result<Text, AllocError>
     ensures { IfOk result (λ text. text ≡ event_line event.now) }
 {
@@ -38,7 +41,7 @@ pub fn event_line(alloc: Global, event: &Sequenced) -> Result<Text, AllocError>
     Ok(Text::from_string(line))
 }
 
-/// Writes a member with a number.
+/// Writes a member with a number into the line that tells of a database.
 fn write_number(out: &mut Writer, name: &str, number: u64) -> Result<(), AllocError>
     ensures { OnOk result (AddsTokens out.old out.new (number_member name.now number)) }
 {
@@ -47,7 +50,7 @@ fn write_number(out: &mut Writer, name: &str, number: u64) -> Result<(), AllocEr
     Ok(())
 }
 
-/// Writes a member with a text.
+/// Writes a member with a text into the line that tells of a database.
 fn write_text(out: &mut Writer, name: &str, text: &str) -> Result<(), AllocError>
     ensures { OnOk result (AddsTokens out.old out.new (text_member name.now text.now)) }
 {
@@ -56,7 +59,7 @@ fn write_text(out: &mut Writer, name: &str, text: &str) -> Result<(), AllocError
     Ok(())
 }
 
-/// Writes a service as JSON.
+/// Writes a database's service as JSON.
 fn write_service(
     out: &mut Writer,
     source: &str,
@@ -75,7 +78,7 @@ fn write_service(
     Ok(())
 }
 
-/// A service as JSON.
+/// A database's service as JSON.
 fn service_text(
     alloc: Global,
     source: &str,
@@ -92,7 +95,7 @@ fn service_text(
     Ok(text)
 }
 
-/// What a service is, as one line.
+/// What a database's service is, as one line.
 #[tactic(auto, unfolding(crate::specs::Print::service_line))]
 pub fn service_line(
     alloc: Global,
@@ -108,7 +111,7 @@ pub fn service_line(
     Ok(Text::from_string(line))
 }
 
-/// An inbox as JSON.
+/// A database's inbox as JSON.
 fn database_text(
     alloc: Global,
     name: &str,
@@ -178,7 +181,7 @@ pub(crate) fn trouble_text(
     Ok(text)
 }
 
-/// The bytes without one LF at their end, as `cover` prints a summary.
+/// The bytes given for a database's delta without one LF at their end, as `cover` prints a summary.
 pub fn summary_of(bytes: &[u8]) -> &[u8]
     ensures { WithoutLineEnd bytes.now result.now }
 {

@@ -39,7 +39,7 @@ pub enum Trouble {
 }
 
 impl Trouble {
-    /// The fault of a command that needs the database.
+    /// The fault of a command that needs the database in trouble.
     pub fn fault(self) -> CommandFault
         ensures exact { result ≡ fault_of self }
         ensures named { IsOfNamed result }
@@ -53,7 +53,7 @@ impl Trouble {
         }
     }
 
-    /// The name of that fault, as a refused command prints it.
+    /// The name of a database's trouble, as a refused command prints it.
     fn name(self) -> &'static str
         ensures { result.now ≡ name_of_command_fault (fault_of self) }
     {
@@ -66,7 +66,7 @@ impl Trouble {
         }
     }
 
-    /// What is the matter, and what can be done.
+    /// What is the matter with a database, and what can be done.
     pub fn hint(self) -> &'static str
         ensures { result.now ≡ hint_of_trouble self }
     {
@@ -95,7 +95,7 @@ impl Trouble {
     }
 }
 
-/// What a fault is of a command over an open database.
+/// What trouble with a database a fault is of a command over it, while it is open.
 pub fn of_fault(fault: CommandFault) -> Trouble
     ensures exact { result ≡ of_fault fault }
     ensures file { result ≢ trouble.NoFile }
@@ -107,7 +107,7 @@ pub fn of_fault(fault: CommandFault) -> Trouble
     }
 }
 
-/// What an error of the database is that is met when it is opened.
+/// What trouble with a database an error is that is met when it is opened.
 pub fn of_error(error: sqlite::Error) -> Trouble
     ensures exact { result ≡ of_error error }
     ensures opening { IsOfOpening result }
@@ -125,7 +125,7 @@ pub fn of_error(error: sqlite::Error) -> Trouble
     }
 }
 
-/// What a refusal of the operating system is.
+/// What trouble with a database a refusal of the operating system is.
 pub fn of_kind(kind: ErrorKind) -> Trouble
     ensures exact { result ≡ of_kind kind }
     ensures system { IsSystemTrouble result }

@@ -24,7 +24,7 @@ use Rattle.durable_site.specs.declared.durable.DurableSite.{DurableSite}
 use Rattle.durable_site.specs.declared.fault.OpenFault.{OpenFault}
 use Rattle.durable_site.specs.declared.fault.OpenFault.TheVariants as opening
 
--- the number of each fault
+-- the number of each fault of opening a durable site
 abbrev pub fault_number : OpenFault → ℕ
 fault_number opening.OutOfMemory = 1
 fault_number opening.System = 2
@@ -33,7 +33,7 @@ fault_number opening.Damaged = 4
 fault_number opening.Store = 5
 fault_number opening.Foreign = 6
 
--- what an error is that the database meets as it is opened
+-- what fault of opening a durable site an error is that the database meets as it is opened
 abbrev pub error_fault : Error → OpenFault
 error_fault (SqliteFailure code.OutOfMemory) = opening.OutOfMemory
 error_fault (SqliteFailure code.NotADatabase) = opening.NoDatabase
@@ -42,19 +42,19 @@ error_fault (SqliteFailure code.CannotOpen) = opening.System
 error_fault (SqliteFailure code.SystemIoFailure) = opening.System
 error_fault _ = opening.Store
 
--- what a refusal of the table is
+-- what fault of opening a durable site a refusal of the table is
 abbrev pub table_fault : TableFault → OpenFault
 table_fault table.OutOfMemory = opening.OutOfMemory
 table_fault table.Store = opening.Store
 table_fault table.Foreign = opening.Foreign
 
--- so many pages are kept of a database where so many MiB are asked for, or 0: 256 pages of a MiB, of
--- at most 1 TiB; else from 200 pages to 256 MiB
+-- so many pages are kept of a durable site's database where so many MiB are asked for, or 0: 256
+-- pages of a MiB, of at most 1 TiB; else from 200 pages to 256 MiB
 abbrev pub IsCacheOf : ℕ → ℕ → Type 0
 IsCacheOf zero pages = (200 ≤ pages) × (pages ≤ 65536)
 IsCacheOf (suc more) pages = pages ≡ min (suc more) 1048576 * 256
 
--- want of memory, or the system refuses
+-- a durable site isn't opened: want of memory, or the system refuses
 abbrev pub IsOfSystem : OpenFault → Type 0
 IsOfSystem fault = (fault ≡ opening.OutOfMemory) ⊎ (fault ≡ opening.System)
 

@@ -56,7 +56,7 @@ impl<S: Alter + Drop> DurableSite<S> {
         })
     }
 
-    /// Counts what is owed. An error where memory runs out again; what was counted by then stays.
+    /// Counts what a site is owed. An error where memory runs out again; what was counted stays.
     pub fn catch_up(&mut self) -> Result<(), AllocError>
         ensures counts { CatchesUp self.old self.new result }
         ensures table { self.new.table ≡ self.old.table }

@@ -30,7 +30,7 @@ pub enum OpenFault {
 }
 
 impl OpenFault {
-    /// The number that the refusal is known by, 1 to 6.
+    /// The number that the refusal to open a durable site is known by, 1 to 6.
     pub fn number(self) -> u8
         ensures { result ≡ fault_number self }
     {
@@ -56,7 +56,7 @@ impl From<io::Error> for OpenFault {
     }
 }
 
-/// What an error of the database is that is met when it is opened.
+/// Why no durable site opens, of an error of the database that is met when it is opened.
 pub(crate) fn of_error(error: sqlite::Error) -> OpenFault
     ensures { result ≡ error_fault error }
 {
@@ -72,7 +72,7 @@ pub(crate) fn of_error(error: sqlite::Error) -> OpenFault
     }
 }
 
-/// What a refusal of the table is.
+/// What a refusal of the table is, as one of opening a durable site.
 pub(crate) fn of_table(fault: TableFault) -> OpenFault
     ensures { result ≡ table_fault fault }
 {

@@ -47,8 +47,8 @@ pub struct GivenFiles {
     pub cache_mib: u64,
 }
 
-/// Opens a site over the files of a database, as [`DurableSite::open`] does; files that are empty
-/// get one without events. What they hold `T` says in clauses, and no code can ask.
+/// Opens a site over its table in the files of a database, as [`DurableSite::open`] does; files
+/// that are empty get one without events. What they hold `T` says in clauses, and no code can ask.
 pub fn open_files<T: Start>(
     alloc: Global,
     given: GivenFiles,
@@ -67,7 +67,7 @@ pub fn open_files<T: Start>(
     }
 }
 
-/// Why no site was made of a connection, whose files are closed as they are.
+/// Why no durable site was made of a connection, whose files are closed as they are.
 fn fault_of<T: Start>(refused: NotMade<FileStore<FileFrom<T>>>) -> OpenFault
     ensures fault { result ≡ table_fault refused.fault }
     ensures closes { Closes refused.conn }
@@ -77,9 +77,9 @@ fn fault_of<T: Start>(refused: NotMade<FileStore<FileFrom<T>>>) -> OpenFault
     of_table(fault)
 }
 
-/// Opens the database of these files; of empty ones a database without tables. The fault is
-/// `OutOfMemory`, `System`, `NoDatabase`, `Damaged` or `Store`. What they hold `T` says in clauses,
-/// and no code can ask. Time in proportion to the log, and memory to the cache.
+/// Opens the database of a durable site's files; of empty ones a database without tables. The fault
+/// is `OutOfMemory`, `System`, `NoDatabase`, `Damaged` or `Store`. What they hold `T` says in
+/// clauses, and no code can ask. Time in proportion to the log, and memory to the cache.
 pub fn connect<T: Start>(
     alloc: Global,
     given: GivenFiles,
@@ -95,8 +95,8 @@ pub fn connect<T: Start>(
     }
 }
 
-/// The files as disks under the key that was given, and how a database is opened over them: with the
-/// seed that was given, and a cache of the size that was.
+/// A durable site's files as disks under the given key, and how a database is opened over them:
+/// with the seed that was given, and a cache of the size that was.
 fn taken<T: Start>(given: GivenFiles, start: T) -> io::Result<(Files<FileFrom<T>>, Options)>
     ensures log { IfOk result (λ r. IsFresh true r.0.log) }
     ensures db { IfOk result (λ r. IsFresh false r.0.db) }
@@ -115,8 +115,8 @@ fn taken<T: Start>(given: GivenFiles, start: T) -> io::Result<(Files<FileFrom<T>
     Ok((files, options))
 }
 
-/// Copies the log of a database into its file, and closes both. Where that fails the log stays beside
-/// the file, for the next opening. Time in proportion to the log.
+/// Copies the log of a durable site's database into its file, and closes both. Where that fails the
+/// log stays beside the file, for the next opening. Time in proportion to the log.
 pub fn close<T: Start>(conn: Connection<FileStore<FileFrom<T>>>)
     ensures { Closes conn }
 {
@@ -126,7 +126,7 @@ pub fn close<T: Start>(conn: Connection<FileStore<FileFrom<T>>>)
     }
 }
 
-/// The pages that are to be kept in memory. A page stands in the cache at its number modulo the
+/// A durable site's pages to keep in memory. A page stands in the cache at its number modulo the
 /// cache's size, so there is a tenth more than the file has.
 fn pages_for(length: u64, cache_mib: u64) -> u64
     ensures { IsCacheOf cache_mib result }

@@ -32,7 +32,7 @@ impl Model for Owed {
     ghost view = { λ o. o.front ++ joined o.behind.items };
 }
 
-/// Counts the events of a batch. An error where memory runs out; then the batch has the rest.
+/// Counts a batch's events into the site. An error where memory runs out; it has the rest then.
 fn count(site: &mut Site, batch: &mut Batch) -> Result<(), AllocError>
     ensures all { append_new key_cmp site.new batch.new ≡ append_new key_cmp site.old batch.old }
     ensures done { OnOk result (batch.new ≡ []) }
@@ -45,7 +45,7 @@ fn count(site: &mut Site, batch: &mut Batch) -> Result<(), AllocError>
 }
 
 impl Owed {
-    /// The events of a batch. It takes no memory.
+    /// The events of a batch, as owed to the site. It takes no memory.
     pub(crate) fn of(alloc: Global, batch: Batch) -> Owed
         ensures { result ≡ batch }
     {
@@ -55,7 +55,7 @@ impl Owed {
         }
     }
 
-    /// The events of the batches, one behind the other. It takes no memory.
+    /// The events of the batches owed to the site, one behind the other. It takes no memory.
     pub(crate) fn of_each(alloc: Global, lists: List<Batch>) -> Owed
         ensures { result ≡ joined lists }
     {
@@ -65,7 +65,7 @@ impl Owed {
         }
     }
 
-    /// Whether nothing is owed. The time grows with the batches.
+    /// Whether nothing is owed to the site. The time grows with the batches.
     pub fn is_empty(&self) -> bool
         ensures { IsTrue result ↔ (self.now ≡ []) }
     {
@@ -77,7 +77,7 @@ impl Owed {
         self.front.is_empty()
     }
 
-    /// Counts them. An error where memory runs out; then the rest is owed still.
+    /// Counts what is owed into the site. An error where memory runs out; the rest is owed still.
     pub(crate) fn count_to(&mut self, site: &mut Site) -> Result<(), AllocError>
         ensures all { append_new key_cmp site.new self.new ≡ append_new key_cmp site.old self.old }
         ensures done { OnOk result (self.new ≡ []) }

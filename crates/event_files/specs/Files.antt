@@ -1,5 +1,5 @@
 -- The events of files, and why they are refused.
-use Rattle.std.specs.Prelude.{◌≡◌, ◌≤◌, ◌⊎◌, ℕ, List, [], ◌∷◌, length, true, None, Some, is_some, slice_get, take}
+use Rattle.std.specs.Prelude.{◌≡◌, ◌≤◌, ◌⊎◌, ℕ, Bool, List, [], ◌∷◌, length, true, false, None, Some, is_some, slice_get, take}
 use Rattle.std.specs.List.{flat_map, list_all}
 use Rattle.std.specs.List.Sorted.{IsPermutation}
 use Rattle.attributes.specs.Event.{EventValue}
@@ -11,7 +11,7 @@ use Rattle.event_files.specs.declared.refusal.ReportFault.{ReportFault}
 use Rattle.event_files.specs.declared.refusal.ReportFault.TheVariants as fault
 use Rattle.event_files.specs.declared.refusal.Refused.{Refused}
 
--- each event has a number
+-- each event of a file has a number
 abbrev pub AreSequenced : List EventValue → Type 0
 AreSequenced events = list_all (λ e. is_some (number_of e)) events ≡ true
 
@@ -22,28 +22,30 @@ EachReads (file ∷ files) (events ∷ lists) =
     Reads file events × AreSequenced events × EachReads files lists
 EachReads _ _ = ⊥
 
--- the events of all lists
+-- the events of the lists of all files
 abbrev pub joined : List (List EventValue) → List EventValue
 joined lists = flat_map (λ events. events) lists
 
--- the bytes spell these events, each of them with a number
+-- the bytes of a file spell these events, each of them with a number
 pub record SpellsNumbered (b : List ℕ) (events : List EventValue) : Type 0 where
   pub reads : Reads b events
   pub numbered : AreSequenced events
   pub are : AreEvents events
 
--- the bytes spell these events, each of them with a number, in whatever order
-pub record SpellsUnordered (b : List ℕ) (events : List EventValue) : Type 0 where
-  pub ordered : List EventValue
-  pub spells : SpellsNumbered b ordered
-  pub same : IsPermutation ordered events
+-- the batch has just the events that a file's bytes spell, each of them with a number, and in their
+-- order unless they are sorted
+pub record SpellsBatch (b : List ℕ) (is_sorted : Bool) (batch : List EventValue) : Type 0 where
+  pub events : List EventValue
+  pub spells : SpellsNumbered b events
+  pub same : IsPermutation events batch
+  pub in_order : is_sorted ≡ false → batch ≡ events
 
 -- the files all spell events with numbers, and these are they, one file behind the other
 abbrev pub SpellAll : List (List ℕ) → List EventValue → Type 0
 SpellAll files events =
     (lists : List (List EventValue)) × EachReads files lists × (events ≡ joined lists)
 
--- the event at i is the first without a number, and this is why
+-- the event at i is the first of a file without a number, and this is why
 pub record IsUnnumberedAt (events : List EventValue) (i : ℕ) (why : Fault) : Type 0 where
   pub event : EventValue
   pub at : slice_get events i ≡ Some event
@@ -51,7 +53,7 @@ pub record IsUnnumberedAt (events : List EventValue) (i : ℕ) (why : Fault) : T
   pub reason : why ≡ sequence_fault event
   pub first : AreSequenced (take i events)
 
--- the first of the events without a number, and why it has none
+-- the first of a file's events without a number, and why it has none
 abbrev pub IsUnnumbered : List EventValue → ReportFault → Type 0
 IsUnnumbered events fault.OutOfMemory = ⊥
 IsUnnumbered events (fault.Read why) = ⊥
@@ -64,7 +66,7 @@ IsFault file (fault.Read why) = Refuses file why
 IsFault file (fault.Event i why) =
     (events : List EventValue) × Reads file events × IsUnnumberedAt events i why
 
--- there is a file, and the first is not larger than what is read
+-- there is a file, and the first is not larger than what is read of a file
 abbrev pub FirstFits : List (List ℕ) → Type 0
 FirstFits [] = ⊥
 FirstFits (file ∷ files) = length file ≤ max_input
@@ -76,7 +78,7 @@ pub record IsAtFault (files : List (List ℕ)) (index : ℕ) (why : ReportFault)
   pub is_fault : IsFault file why
   pub before : (lists : List (List EventValue)) × EachReads (take index files) lists
 
--- memory ran out, or this is the first file at fault
+-- the refusal of files: memory ran out, or this is the first file at fault
 abbrev pub IsRefusal : List (List ℕ) → Refused → Type 0
 IsRefusal files refused =
     (refused.fault ≡ fault.OutOfMemory) ⊎ IsAtFault files refused.file refused.fault

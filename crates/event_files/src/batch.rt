@@ -1,9 +1,9 @@
 //! The events of one file, each with its number.
 ghost use Rattle.std.specs.Prelude.{◌≡◌, ◌≢◌, ◌≤◌, IfErr, IfOk, length};
 ghost use Rattle.std.specs.List.Sorted.{IsPermutation};
-ghost use Rattle.event_json.specs.Reading.{Reads, max_input};
+ghost use Rattle.event_json.specs.Reading.{max_input};
 ghost use Rattle.inbox.specs.Sets.{AreEvents};
-ghost use Rattle.event_files.specs.Files.{AreSequenced, IsFault, IsUnnumbered, SpellsNumbered, SpellsUnordered};
+ghost use Rattle.event_files.specs.Files.{AreSequenced, IsFault, IsUnnumbered, SpellsBatch};
 
 use crate::refusal::ReportFault;
 use attributes::{Batch, Events, Sequenced};
@@ -16,21 +16,13 @@ pub trait EventReader {
     /// What has to hold for it to read: of one that starts threads, that they may share what it has.
     ghost can_read: { Self → Type 0 };
 
-    /// The events that a file's bytes spell, each with its number, in their order. The first fault
-    /// of the file is answered; want of memory never of one that is too large.
-    fn read(&self, alloc: Global, bytes: &[u8]) -> Result<Batch, ReportFault>
+    /// The events that a file's bytes spell, each with its number, in their order, or sorted so that
+    /// a site takes them fast: by their keys, or in few runs that each are so. That they are sorted
+    /// has no clause, since it serves speed alone. The first fault of the file is answered; want of
+    /// memory never of one that is too large.
+    fn read(&self, alloc: Global, bytes: &[u8], is_sorted: bool) -> Result<Batch, ReportFault>
         requires { can_read self.now }
-        ensures ok { IfOk result (λ events. SpellsNumbered bytes.now events) }
-        ensures fault { IfErr result (λ why. why ≢ ReportFault.OutOfMemory
-            → IsFault bytes.now why) }
-        ensures memory { IfErr result (λ why. why ≡ ReportFault.OutOfMemory
-            → length bytes.now ≤ max_input) };
-
-    /// The same events in an order that a site takes them fast in: by their keys, or in few runs
-    /// that each are so. That they are sorted has no clause, since it serves speed alone.
-    fn read_sorted(&self, alloc: Global, bytes: &[u8]) -> Result<Batch, ReportFault>
-        requires { can_read self.now }
-        ensures ok { IfOk result (λ events. SpellsUnordered bytes.now events) }
+        ensures ok { IfOk result (SpellsBatch bytes.now is_sorted) }
         ensures fault { IfErr result (λ why. why ≢ ReportFault.OutOfMemory
             → IsFault bytes.now why) }
         ensures memory { IfErr result (λ why. why ≡ ReportFault.OutOfMemory
@@ -44,35 +36,21 @@ pub struct SequentialReader {}
 impl EventReader for SequentialReader {
     ghost can_read = { λ _. Unit {0} };
 
-    fn read(&self, alloc: Global, bytes: &[u8]) -> Result<Batch, ReportFault> {
-        let events = events_of_file(alloc, bytes)?;
-        Ok(batch_of(alloc, events)?)
-    }
-
-    fn read_sorted(&self, alloc: Global, bytes: &[u8]) -> Result<Batch, ReportFault> {
-        let events = events_of_file(alloc, bytes)?;
-        Ok(in_key_order(alloc, events)?)
-    }
-}
-
-/// The events that a file's bytes spell, each with its number, in their order. The first fault of
-/// the file is answered.
-pub fn events_of_file(alloc: Global, bytes: &[u8]) -> Result<Vec<Sequenced>, ReportFault>
-    ensures reads { IfOk result (λ events. Reads bytes.now events.items) }
-    ensures numbered { IfOk result (λ events. AreSequenced events.items) }
-    ensures events { IfOk result (λ events. AreEvents events.items) }
-    ensures fault { IfErr result (λ why. why ≢ ReportFault.OutOfMemory → IsFault bytes.now why) }
-    ensures memory { IfErr result (λ why. why ≡ ReportFault.OutOfMemory
-        → length bytes.now ≤ max_input) }
-{
-    match read_events(alloc, bytes) {
-        Ok(events) => sequenced(alloc, events),
-        Err(ReadFault::OutOfMemory) => Err(ReportFault::OutOfMemory),
-        Err(fault) => Err(ReportFault::Read(fault)),
+    fn read(&self, alloc: Global, bytes: &[u8], is_sorted: bool) -> Result<Batch, ReportFault> {
+        let events = match read_events(alloc, bytes) {
+            Ok(events) => sequenced(alloc, events)?,
+            Err(ReadFault::OutOfMemory) => return Err(ReportFault::OutOfMemory),
+            Err(fault) => return Err(ReportFault::Read(fault)),
+        };
+        if is_sorted {
+            Ok(in_key_order(alloc, events)?)
+        } else {
+            Ok(batch_of(alloc, events)?)
+        }
     }
 }
 
-/// The events with their numbers, or the first that has none.
+/// The events of a file with their numbers, or the first that has none.
 pub fn sequenced(alloc: Global, events: Events) -> Result<Vec<Sequenced>, ReportFault>
     ensures same { IfOk result (λ numbered. numbered.items ≡ events) }
     ensures numbered { IfOk result (λ numbered. AreSequenced numbered.items) }
@@ -94,8 +72,8 @@ pub fn sequenced(alloc: Global, events: Events) -> Result<Vec<Sequenced>, Report
     Ok(numbered)
 }
 
-/// The events in key order, in which a site takes them fastest: the search for a place then goes
-/// where the last one went, through memory that is at hand.
+/// The events of a file in key order, in which a site takes them fastest: the search for a place
+/// then goes where the last one went, through memory at hand.
 pub fn in_key_order(alloc: Global, mut events: Vec<Sequenced>) -> Result<Batch, AllocError>
     ensures { IfOk result (IsPermutation events.items) }
 {
@@ -103,7 +81,7 @@ pub fn in_key_order(alloc: Global, mut events: Vec<Sequenced>) -> Result<Batch, 
     batch_of(alloc, events)
 }
 
-/// The events as a batch.
+/// The events of a file as a batch.
 pub fn batch_of(alloc: Global, events: Vec<Sequenced>) -> Result<Batch, AllocError>
     ensures { IfOk result (λ batch. batch ≡ events.items) }
 {

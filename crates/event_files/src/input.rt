@@ -29,7 +29,7 @@ pub enum Unread {
 impl Unread {
     ghost use Rattle.event_files.specs.Numbers.{unread_number};
 
-    /// The number of the reason, from 1.
+    /// The number, from 1, of the reason why an input, such as a file, was not read.
     pub fn number(self) -> u8
         ensures { result ≡ unread_number self }
     {

@@ -22,7 +22,7 @@ pub fn events_of<R: EventReader>(
 {
     let mut events = Batch::empty(alloc);
     for (file, bytes) in files.iter().enumerate() {
-        match reader.read(alloc, bytes.as_bytes()) {
+        match reader.read(alloc, bytes.as_bytes(), false) {
             Ok(more) => append(&mut events, more)?,
             Err(fault) => {
                 return Err(Refused {
@@ -35,7 +35,7 @@ pub fn events_of<R: EventReader>(
     Ok(events)
 }
 
-/// Moves events behind those of a batch.
+/// Moves the events of a file behind those of a batch of files.
 pub fn append(events: &mut Batch, mut more: Batch) -> Result<(), AllocError>
     ensures { OnOk result (events.new ≡ events.old ++ more) }
 {

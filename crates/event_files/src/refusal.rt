@@ -24,7 +24,7 @@ pub enum ReportFault {
 impl ReportFault {
     ghost use Rattle.event_files.specs.Numbers.{fault_number};
 
-    /// The number of the reason, from 1.
+    /// The number, from 1, of the reason why a file's events gave no answer.
     pub fn number(self) -> u8
         ensures { result ≡ fault_number self }
     {

@@ -17,7 +17,7 @@ pub trait Shelf {
 
     ghost is_unread: { Self → List ℕ → Unread → Type 0 };
 
-    /// The whole content of the file of that name.
+    /// The whole content of the file that the shelf has under that name.
     fn content(&self, alloc: Global, name: &str) -> Result<Octets, Unread>
         ensures content { IfOk result (λ bytes. is_content self.now name.now bytes) }
         ensures unread { IfErr result (λ why. is_unread self.now name.now why) };
@@ -30,7 +30,7 @@ pub struct UnreadAt {
     pub why: Unread,
 }
 
-/// The contents of all files, in the order of their names.
+/// The contents of all files on a shelf, in the order of their names.
 pub fn contents_of<S: Shelf>(
     alloc: Global,
     shelf: &S,

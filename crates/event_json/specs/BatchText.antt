@@ -3,14 +3,14 @@ use Rattle.std.specs.Prelude.{ℕ, List, [], ◌∷◌, ◌++◌, map}
 use Rattle.std.specs.List.{join_with_byte}
 use Rattle.attributes.specs.Event.{EventValue, text}
 
--- the texts joined by commas, in brackets
+-- the text of a JSON batch: the events' texts joined by commas, in brackets
 abbrev pub batch_text : List EventValue → List ℕ
 batch_text es = 91 ∷ (join_with_byte 44 (map text es) ++ 93 ∷ [])
 
--- and so it is a line
+-- the text of a JSON batch is one line
 abbrev pub batch_line : List EventValue → List ℕ
 batch_line events = batch_text events ++ 10 ∷ []
 
--- an event, as one line
+-- an event's JSON object, as one line
 abbrev pub event_line : EventValue → List ℕ
 event_line e = text e ++ 10 ∷ []

@@ -4,7 +4,7 @@ use Rattle.event_json.specs.declared.fault.ReadFault.{ReadFault}
 use Rattle.event_json.specs.declared.fault.ReadFault.TheVariants.{OutOfMemory, NotJson, NotEvent}
 use Rattle.event_json.specs.declared.fault.ReadFault.TheVariants.{BadEvent, InputTooLarge}
 
--- the number of the kind of a refusal
+-- the number of the kind of a refusal of bytes that are to be read as events
 abbrev pub fault_number : ReadFault → ℕ
 fault_number OutOfMemory = 1
 fault_number NotJson = 2

@@ -8,7 +8,7 @@ use Rattle.attributes.specs.Event.{EventValue}
 use Rattle.event_json.specs.Spelling.{event_in, list_of}
 use Rattle.event_json.specs.Reading.{AreFaultless, Reads, max_input}
 
--- the bytes are the text of an array of these values, one at least
+-- the bytes are the text of a JSON array of these values, one at least
 pub record HoldsSome (b : List ℕ) (ds : List Data) : Type 0 where
   pub items : Items
   pub utf8 : IsUtf8 b
@@ -16,26 +16,26 @@ pub record HoldsSome (b : List ℕ) (ds : List Data) : Type 0 where
   pub some : HasItems items
   pub are : ds ≡ list_of items
 
--- the bytes are the text of an array of events without fault, one at least
+-- the bytes are the text of a JSON array of events without fault, one at least
 pub record SpellsSome (b : List ℕ) (es : List EventValue) : Type 0 where
   pub members : List Data
   pub holds : HoldsSome b members
   pub faultless : AreFaultless members
   pub are_events : es ≡ map event_in members
 
--- the text of an array of which brackets at the ends may be left to add
+-- the text of a JSON array of which brackets at the ends may be left to add
 abbrev pub part_text : Bool → List ℕ → Bool → List ℕ
 part_text opened b closed =
     (if opened then [] else 91 ∷ []) ++ (b ++ (if closed then [] else 93 ∷ []))
 
--- two parts that a comma joins spell the events of both
+-- two parts of a batch that a comma joins spell the events of both
 abbrev pub PartsSpellBoth : Type 0
 PartsSpellBoth = (b : List ℕ) (opened closed : Bool) (i : ℕ) (l m : List EventValue)
     → slice_get b i ≡ Some 44 → SpellsSome (part_text opened (take i b) false) l
     → SpellsSome (part_text false (slice_range b (i + 1) (length b)) closed) m
     → SpellsSome (part_text opened b closed) (l ++ m)
 
--- a part that is the whole spells its events
+-- a part of a batch that is the whole spells its events
 abbrev pub WholesRead : Type 0
 WholesRead = (b : List ℕ) (l : List EventValue) → SpellsSome (part_text true b true) l
     → length b ≤ max_input → Reads b l

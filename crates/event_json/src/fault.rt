@@ -29,7 +29,7 @@ impl ReadFault {
     ghost use Rattle.std.specs.Prelude.{◌≡◌};
     ghost use Rattle.event_json.specs.Fault.{fault_number};
 
-    /// The number that the kind of refusal is known by, 1 to 5.
+    /// The number that the kind of a batch's or event's refusal is known by, 1 to 5.
     pub fn number(self) -> u8
         ensures { result ≡ fault_number self }
     {
@@ -49,7 +49,7 @@ impl From<AllocError> for ReadFault {
 
     ghost from_gives = { λ _ e. e ≡ OutOfMemory };
 
-    /// Want of memory.
+    /// Want of memory while JSON is read into events.
     fn from(_refused: AllocError) -> ReadFault {
         ReadFault::OutOfMemory
     }
@@ -61,7 +61,7 @@ impl<T: Drop> From<AllocFailed<T>> for ReadFault {
 
     ghost from_gives = { λ _ e. e ≡ OutOfMemory };
 
-    /// Want of memory, whatever was to be kept.
+    /// Want of memory while JSON is read into events, whatever was to be kept.
     fn from(_refused: AllocFailed<T>) -> ReadFault {
         ReadFault::OutOfMemory
     }

@@ -65,7 +65,7 @@ struct FaultyMembers {
 }
 
 impl FaultyMembers {
-    /// Those of no members.
+    /// The faulty members of an input that has none.
     fn empty(alloc: Global) -> FaultyMembers
         ensures { AreFaultyOf result [] }
     {
@@ -98,8 +98,8 @@ impl Gather for FaultyMembers {
     }
 }
 
-/// Tells those of the members of a text that are at fault, of which the first stands at a place. The
-/// text is read once more for their trees, where there are some.
+/// Tells those of the members of a JSON text that are at fault, of which the first stands at a
+/// place. The text is read once more for their trees, where there are some.
 fn tell_faulty(
     alloc: Global,
     text: &[u8],
@@ -120,7 +120,7 @@ fn tell_faulty(
     tell(trees, faults, first, told)
 }
 
-/// The members of a text that was read before.
+/// The members of a JSON text that was read before.
 fn members_again(alloc: Global, text: &[u8]) -> Result<Vec<Value>, AllocError>
     ensures { IfOk result (λ found. HasMembers text.now (map view found.items)) }
 {
@@ -133,7 +133,7 @@ fn members_again(alloc: Global, text: &[u8]) -> Result<Vec<Value>, AllocError>
     }
 }
 
-/// What a value has as members: the items of an array, or the object that it is.
+/// What a JSON value has as members of an input: the items of an array, or the object that it is.
 fn members(alloc: Global, value: Value) -> Result<Vec<Value>, ReadFault>
     ensures ok { IfOk result (λ found. candidates (view value) ≡ Some (map view found.items)) }
     ensures refused { IfErr result (λ f. f ≢ ReadFault.OutOfMemory → IsNoMember (view value) f) }
@@ -160,7 +160,7 @@ fn faults_of(alloc: Global, trees: Vec<Value>) -> Result<Vec<Option<Fault>>, All
     Ok(faults)
 }
 
-/// The first fault of a member.
+/// The first fault of an input's member, read from JSON.
 fn member_fault(alloc: Global, tree: Value) -> Result<Option<Fault>, AllocError>
     ensures { IfOk result (λ fault. fault ≡ fault_of_numbered (view tree)) }
 {
@@ -171,7 +171,7 @@ fn member_fault(alloc: Global, tree: Value) -> Result<Option<Fault>, AllocError>
     }
 }
 
-/// Why an event has no number.
+/// Why an event that was read from JSON has no number.
 fn number_fault(event: Event) -> Option<Fault>
     ensures { result ≡ number_fault event }
 {
@@ -181,7 +181,7 @@ fn number_fault(event: Event) -> Option<Fault>
     }
 }
 
-/// Whether none of them is at fault.
+/// Whether none of an input's members is at fault.
 fn all_are_none(faults: &[Option<Fault>]) -> bool
     ensures { result ≡ true → AllAreNone faults.now }
 {
@@ -193,7 +193,7 @@ fn all_are_none(faults: &[Option<Fault>]) -> bool
     true
 }
 
-/// Tells the trees that have a fault, of which the first stands at a place.
+/// Tells the trees of an input's members that have a fault, of which the first stands at a place.
 fn tell(
     trees: Vec<Value>,
     faults: Vec<Option<Fault>>,

@@ -14,8 +14,8 @@ pub trait Gather {
     /// Whether that is what is gathered of these members.
     ghost is_of: { Self → List Data → Type 0 };
 
-    /// What is gathered once these members stand behind the others. The text is that of an array of
-    /// these members.
+    /// What is gathered once these members stand behind the others of a batch. The text is that of
+    /// a JSON array of these members.
     fn add(self, alloc: Global, text: &[u8], members: Vec<Value>) -> Result<Self, AllocError>
         requires { IsUtf8 text.now × (read text.now ≡ Some (array (items_view members.items))) }
         ensures { IfOk result (λ more.
@@ -40,7 +40,7 @@ pub fn read_batch_text<G: Gather + Drop>(
     read_part(alloc, bytes, true, true, start)
 }
 
-/// Whether the first byte that is no white space opens an array.
+/// Whether the first byte of JSON that is no white space opens an array.
 fn begins_array(bytes: &[u8]) -> bool
     ensures { result ≡ true → 0 < length bytes.now }
 {
@@ -93,8 +93,8 @@ pub fn read_part<G: Gather + Drop>(
     add_piece(alloc, &text, gathered)
 }
 
-/// The text of an array whose items' text is given, in place of what a buffer holds; brackets stand
-/// already at the ends of the batch.
+/// The text of a JSON array whose items' text is given, in place of what a buffer holds; brackets
+/// stand already at the ends of the batch.
 fn fill(text: &mut Vec<u8>, opened: bool, piece: &[u8], closed: bool) -> Result<(), AllocError>
     ensures { OnOk result (text.new.items ≡ part_text opened piece.now closed) }
 {
@@ -109,8 +109,8 @@ fn fill(text: &mut Vec<u8>, opened: bool, piece: &[u8], closed: bool) -> Result<
     Ok(())
 }
 
-/// What is gathered once the members of an array stand behind the others. `None` where the text is
-/// none of an array that has some.
+/// What is gathered of a batch once the members of a JSON array stand behind the others. `None`
+/// where the text is none of an array that has some.
 fn add_piece<G: Gather + Drop>(
     alloc: Global,
     text: &[u8],
@@ -126,7 +126,7 @@ fn add_piece<G: Gather + Drop>(
     Ok(Some(more))
 }
 
-/// The items of the array that a text is, if it has some.
+/// The items of the JSON array that a text is, if it has some.
 pub fn items_of(alloc: Global, text: &[u8]) -> Result<Option<Vec<Value>>, AllocError>
     ensures { IfOk result (λ o. IfSome o (λ v. (v.items ≢ []) × IsUtf8 text.now
         × (read text.now ≡ Some (array (items_view v.items))))) }
@@ -147,8 +147,8 @@ pub fn items_of(alloc: Global, text: &[u8]) -> Result<Option<Vec<Value>>, AllocE
     }
 }
 
-/// The place of the first comma at depth 1 that stands at `least` bytes behind a place of some
-/// depth, or later. Whether it parts two members no clause says, and none has to.
+/// The place of the first comma of JSON at depth 1 that stands at `least` bytes behind a place of
+/// some depth, or later. Whether it parts two members of a batch no clause says; none has to.
 pub fn next_comma(bytes: &[u8], from: usize, depth: usize, least: usize) -> Option<usize>
     requires { from ≤ length bytes.now }
     ensures { IfSome result (λ i. (from ≤ i) × (i < length bytes.now)
@@ -180,7 +180,7 @@ pub fn next_comma(bytes: &[u8], from: usize, depth: usize, least: usize) -> Opti
     None
 }
 
-/// The place behind the quote that closes a string whose content begins at a place.
+/// The place behind the quote that closes a JSON string whose content begins at a place.
 fn past_string(bytes: &[u8], from: usize) -> usize
     requires { from ≤ length bytes.now }
     ensures { (from ≤ result) × (result ≤ length bytes.now + 1) }

@@ -89,7 +89,7 @@ struct Outcome {
 }
 
 impl Outcome {
-    /// That of no members.
+    /// What reading a batch without members comes to.
     fn empty(alloc: Global) -> Outcome
         ensures { IsReadingOutcome result [] }
     {
@@ -99,7 +99,7 @@ impl Outcome {
         }
     }
 
-    /// The events, or the refusal.
+    /// The events that were read from a batch, or its refusal.
     fn result(self) -> Result<Events, ReadFault>
         ensures { result ≡ result_of self }
     {
@@ -109,7 +109,7 @@ impl Outcome {
         }
     }
 
-    /// The events, where no member is refused.
+    /// The events that were read from a batch, where no member is refused.
     fn events_alone(self) -> Option<Events>
         ensures { result ≡ ok_of (result_of self) }
     {
@@ -157,7 +157,7 @@ pub fn readings_are_one()
         → Reads b l → Refuses b f → ⊥ }
 {}
 
-/// The bytes as a JSON value.
+/// The bytes of an input, an event or a batch, as a JSON value.
 pub fn parse(alloc: Global, bytes: &[u8]) -> Result<Value, ReadFault>
     ensures value { IfOk result (λ v. IsJsonText bytes.now (view v)) }
     ensures fault { IfErr result (λ f. f ≢ ReadFault.OutOfMemory → f ≡ ReadFault.NotJson) }
@@ -175,7 +175,7 @@ pub fn parse(alloc: Global, bytes: &[u8]) -> Result<Value, ReadFault>
     }
 }
 
-/// The events of an object, which is one event, or of an array, which is a batch.
+/// The events of a JSON object, which is one event, or of an array, which is a batch.
 fn read_value(alloc: Global, value: Value) -> Result<Events, ReadFault>
     ensures ok { IfOk result (λ l. Spells (view value) l) }
     ensures refused { IfErr result (λ f. f ≢ ReadFault.OutOfMemory
@@ -188,7 +188,7 @@ fn read_value(alloc: Global, value: Value) -> Result<Events, ReadFault>
     }
 }
 
-/// The event of an object that stands alone.
+/// The event of a JSON object that stands alone.
 fn read_single(alloc: Global, members: Map<String, Value>) -> Result<Events, ReadFault>
     ensures ok { IfOk result (λ l. (fault_in (object (members_view members.entries)) ≡ None)
         × (l ≡ event_in (object (members_view members.entries)) ∷ [])) }
@@ -203,7 +203,7 @@ fn read_single(alloc: Global, members: Map<String, Value>) -> Result<Events, Rea
     Ok(events)
 }
 
-/// The events of an array's items. The tree of each is given back as soon as its event stands.
+/// The events of a JSON array's items. The tree of each is given back as soon as its event stands.
 fn read_batch(alloc: Global, items: Vec<Value>) -> Result<Events, ReadFault>
     ensures ok { IfOk result (λ l. (first_bad 0 (map view items.items) ≡ None)
         × (l ≡ map event_in (map view items.items))) }
@@ -215,8 +215,8 @@ fn read_batch(alloc: Global, items: Vec<Value>) -> Result<Events, ReadFault>
     Ok(events)
 }
 
-/// Puts the events of items behind those that are there, each of an item; the index of one that is
-/// refused counts those too.
+/// Puts the events of a batch's items behind those that are there, each of an item; the index of
+/// one that is refused counts those too.
 fn push_events(alloc: Global, events: &mut Events, items: Vec<Value>) -> Result<(), ReadFault>
     ensures ok { OnOk result ((first_bad (length events.old) (map view items.items) ≡ None)
         × (events.new ≡ events.old ++ map event_in (map view items.items))) }
@@ -232,7 +232,7 @@ fn push_events(alloc: Global, events: &mut Events, items: Vec<Value>) -> Result<
     Ok(())
 }
 
-/// The refusal of the value at the index, for its fault.
+/// The refusal of the batch's value at the index, for its fault.
 fn refusal(index: u64, fault: Fault) -> ReadFault
     ensures value { result ≢ ReadFault.OutOfMemory → result ≡ bad index fault }
     ensures cause { result ≢ ReadFault.OutOfMemory → fault ≢ Fault.OutOfMemory }
@@ -255,7 +255,7 @@ pub fn read_item(alloc: Global, item: Value) -> Result<Event, Fault>
     }
 }
 
-/// The event that an object's members spell.
+/// The event that a JSON object's members spell.
 fn read_event(alloc: Global, members: Map<String, Value>) -> Result<Event, Fault>
     ensures ok { IfOk result (λ e. fault_in (object (members_view members.entries)) ≡ None) }
     ensures built { IfOk result (λ e. e ≡ event_in (object (members_view members.entries))) }
@@ -265,8 +265,8 @@ fn read_event(alloc: Global, members: Map<String, Value>) -> Result<Event, Fault
     Event::build(event_parts(alloc, members)?)
 }
 
-/// The parts that an object's members spell. The payload members are taken out first, so that
-/// their values are moved and not copied.
+/// The parts of an event that a JSON object's members spell. The payload members are taken out
+/// first, so that their values are moved and not copied.
 fn event_parts(alloc: Global, mut members: Map<String, Value>) -> Result<Parts, AllocError>
     ensures { IfOk result (λ p. p ≡ parts_in (members_view members.entries)) }
 {
@@ -277,8 +277,8 @@ fn event_parts(alloc: Global, mut members: Map<String, Value>) -> Result<Parts, 
     Ok(parts)
 }
 
-/// The parts of members that are all attributes. A map's names are in order and each stands once,
-/// so each part is new.
+/// The parts of an event of JSON members that are all attributes. A map's names are in order and
+/// each stands once, so each part is new.
 fn attribute_parts(alloc: Global, members: Map<String, Value>) -> Result<Parts, AllocError>
     ensures { IfOk result (λ p. p ≡ record {
       members = spelled (members_view members.entries);
@@ -294,7 +294,7 @@ fn attribute_parts(alloc: Global, members: Map<String, Value>) -> Result<Parts, 
     Ok(parts)
 }
 
-/// What a member's value offers, where it is set.
+/// What a JSON member's value offers for an attribute, where it is set.
 fn given_in(value: Value) -> Option<Given>
     ensures { result ≡ given_in (view value) }
 {
@@ -308,7 +308,7 @@ fn given_in(value: Value) -> Option<Given>
     }
 }
 
-/// What a number offers: a whole number of 32 bits, or no value of an attribute.
+/// What a JSON number offers: a whole number of 32 bits, or no value of an attribute.
 fn given_whole(number: &Number) -> Given
     ensures { result ≡ given_whole (as_i64 (number_view number.now)) }
 {
@@ -318,7 +318,7 @@ fn given_whole(number: &Number) -> Given
     }
 }
 
-/// The member, unless it is null.
+/// The member of a JSON object, unless it is null.
 fn unless_null(member: Option<Value>) -> Option<Value>
     ensures { option_map view result ≡ unless_null (option_map view member) }
 {
@@ -328,7 +328,7 @@ fn unless_null(member: Option<Value>) -> Option<Value>
     }
 }
 
-/// What the members `data` and `data_base64` offer.
+/// What the JSON members `data` and `data_base64` offer.
 fn payload(alloc: Global, tree: Option<Value>, coded: Option<Value>) -> Result<Offered, AllocError>
     ensures { IfOk result (λ o. o ≡ payload (option_map view tree) (option_map view coded)) }
 {
@@ -340,7 +340,7 @@ fn payload(alloc: Global, tree: Option<Value>, coded: Option<Value>) -> Result<O
     }
 }
 
-/// The bytes of a text in Base64.
+/// The bytes of a JSON member's text in Base64.
 fn bytes_in(alloc: Global, coded: Value) -> Result<Offered, AllocError>
     ensures { IfOk result (λ o. o ≡ bytes_in (view coded)) }
 {
@@ -350,7 +350,7 @@ fn bytes_in(alloc: Global, coded: Value) -> Result<Offered, AllocError>
     }
 }
 
-/// The bytes, where the text can be decoded.
+/// The bytes of `data_base64`, where the text can be decoded.
 fn decoded(alloc: Global, text: &str) -> Result<Offered, AllocError>
     ensures { IfOk result (λ o. o ≡ decoded (decode_of standard text.now)) }
 {

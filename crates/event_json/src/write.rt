@@ -31,7 +31,7 @@ pub fn write_batch(alloc: Global, events: &Events) -> Result<Text, AllocError>
     write_list(alloc, events)
 }
 
-/// As [`write_batch`], of events that have a number.
+/// As [`write_batch`], of a batch's events that have a number.
 pub fn write_sequenced(alloc: Global, batch: &Batch) -> Result<Text, AllocError>
     ensures text { IfOk result (λ t. t ≡ batch_text batch.now) }
     ensures reads_back { IfOk result (λ t. length t ≤ max_input → Reads t batch.now) }
@@ -76,11 +76,11 @@ trait EventList {
 
     ghost list: { Self → List EventValue };
 
-    /// How many members there are.
+    /// How many events there are for a batch's text.
     fn count(&self) -> u64
         ensures { result ≡ length (list self.now) };
 
-    /// The event at a place, from 0 on.
+    /// The event at a place, from 0 on, for a batch's text.
     fn event_at(&self, i: u64) -> &Event
         requires { i < length (list self.now) }
         ensures { slice_get (list self.now) i ≡ Some result.now };
@@ -110,7 +110,7 @@ impl EventList for Batch {
     }
 }
 
-/// Writes the batch of the list's events, in one piece of its length.
+/// Writes the JSON batch of the list's events, in one piece of its length.
 fn write_list<L: EventList>(alloc: Global, list: &L) -> Result<Text, AllocError>
     ensures text { IfOk result (λ t. t ≡ batch_text (L.list list.now)) }
     ensures reads_back { IfOk result (λ t. length t ≤ max_input → Reads t (L.list list.now)) }
@@ -126,7 +126,7 @@ fn write_list<L: EventList>(alloc: Global, list: &L) -> Result<Text, AllocError>
     Ok(Text::from_string(out))
 }
 
-/// The length of the list's text, unless it is beyond all memory.
+/// The length of the text of a batch of the list, unless it is beyond all memory.
 fn text_len<L: EventList>(list: &L) -> Option<usize>
     ensures { IfSome result (λ n. n ≡ length (batch_text (L.list list.now))) }
 {
@@ -140,7 +140,7 @@ fn text_len<L: EventList>(list: &L) -> Option<usize>
     Some(len)
 }
 
-/// Writes an event, with a comma before it unless it is the first.
+/// Writes an event of a batch, with a comma before it unless it is the first.
 fn append_event(out: &mut String, first: bool, event: &Event) -> Result<(), AllocError>
     ensures text { OnOk result (string_bytes out.new
         ≡ string_bytes out.old ++ separated first (text event.now)) }

@@ -192,7 +192,7 @@ world_after-append : (xs ys : List Step) (w : List Place) → world_after (xs ++
 world_after-append [] ys w = refl
 world_after-append (x ∷ xs) ys w = world_after-append xs ys (places_after x w)
 
--- the world places_after one step more
+-- the world after one step more
 pub world_after-next : (steps : List Step) (i : ℕ) (x : Step) (w : List Place) → slice_get steps i ≡ Some x → world_after (take (i + 1) steps) w ≡ places_after x (world_after (take i steps) w)
 world_after-next steps i x w h =
     ap (λ l. world_after l w) (take_more steps i x (slice_get_within steps i x h) ∙ ap (λ z. take i steps ++ z ∷ []) (get_or_from_slice_get steps i x x h)) ∙ world_after-append (take i steps) (x ∷ []) w
@@ -212,7 +212,7 @@ stands_length [] (p ∷ ps) s = absurd s
 stands_length (h ∷ hs) [] s = absurd s
 stands_length (h ∷ hs) (p ∷ ps) s = ap suc (stands_length hs ps s.1)
 
--- memory was wanted for an event that a site hasn't, places_after it took the first ones
+-- memory was wanted for an event that a site hasn't, after it took the first ones
 pub short_of_next : SetLaws → (new E L : List EventValue) (n : ℕ) → n < length L → set_of new ≡ union E (take n L) → LacksArrivalAt new L n → IsShortOfNext E n L
 short_of_next sets new E L n less is lacks = (less, λ e h. ap (λ F. has key_cmp F e) (sym is) ∙ sets.members new e ∙ lacks e h)
 

@@ -37,7 +37,7 @@ pub struct Stopped {
     pub part: u64,
 }
 
-/// A site takes copies of a batch. After want of memory the answer is how many events it took.
+/// A site of the exchange takes copies of a batch. If memory is wanted, how many events it took.
 fn deliver(hosts: &mut Vec<Hosted>, to: usize, batch: &Batch) -> Result<(), u64>
     requires { to < vec_len hosts.old }
     ensures sites { vec_len hosts.new ≡ vec_len hosts.old }
@@ -54,8 +54,8 @@ fn deliver(hosts: &mut Vec<Hosted>, to: usize, batch: &Batch) -> Result<(), u64>
     }
 }
 
-/// A site takes what it lacks of another. After want of memory the answer is how many events it
-/// took.
+/// One gossip: a site takes what it lacks of another. After want of memory the answer is how many
+/// events it took.
 fn gossip_between(alloc: Global, hosts: &mut Vec<Hosted>, from: usize, to: usize) -> Result<(), u64>
     requires giver { from < vec_len hosts.old }
     requires taker { to < vec_len hosts.old }
@@ -77,7 +77,7 @@ fn gossip_between(alloc: Global, hosts: &mut Vec<Hosted>, from: usize, to: usize
     }
 }
 
-/// A site takes all of another. After want of memory the answer is how many events it took.
+/// One scrub: a site takes all of another. If memory is wanted, how many events it took.
 fn scrub_between(alloc: Global, hosts: &mut Vec<Hosted>, from: usize, to: usize) -> Result<(), u64>
     requires giver { from < vec_len hosts.old }
     requires taker { to < vec_len hosts.old }
@@ -100,7 +100,7 @@ fn scrub_between(alloc: Global, hosts: &mut Vec<Hosted>, from: usize, to: usize)
     }
 }
 
-/// A site of the first arrivals that outlast a restart.
+/// A site of the first arrivals that outlast a restart, in a schedule of exchanges.
 fn restarted(alloc: Global, host: &Hosted) -> Result<Site, AllocError>
     ensures arrivals { IfOk result (λ site. site
         ≡ append_new key_cmp [] (take host.now.kept host.now.site)) }
@@ -118,7 +118,7 @@ fn restarted(alloc: Global, host: &Hosted) -> Result<Site, AllocError>
     }
 }
 
-/// One step. After want of memory the answer is how many of the step's events the site took.
+/// One step of a schedule. After want of memory, how many of the step's events the site took.
 fn make_step(alloc: Global, hosts: &mut Vec<Hosted>, step: &Step) -> Result<(), u64>
     requires { FitsIn (vec_len hosts.old) step.now }
     ensures sites { vec_len hosts.new ≡ vec_len hosts.old }
@@ -159,7 +159,7 @@ fn make_step(alloc: Global, hosts: &mut Vec<Hosted>, step: &Step) -> Result<(), 
     }
 }
 
-/// So many sites that have nothing.
+/// So many sites that have nothing, before a schedule of exchanges.
 fn empty_sites(alloc: Global, sites: u32) -> Result<Vec<Hosted>, AllocError>
     ensures ok { IfOk result (λ hosts. StandAtPlaces hosts.items (start sites)) }
     ensures err { OnErr result (sites ≢ 0) }
@@ -192,8 +192,8 @@ fn run_steps(alloc: Global, hosts: &mut Vec<Hosted>, steps: &Steps) -> Result<()
 }
 
 impl World {
-    /// So many sites that have nothing. `AllocError` where there is no memory for the list of them,
-    /// of which there is to be one at least.
+    /// A world of so many sites that have nothing, which exchange. `AllocError` where there is no
+    /// memory for the list of them, of which there is to be one at least.
     pub fn begin(alloc: Global, sites: u32) -> Result<World, AllocError>
         ensures ok { IfOk result (λ world. StandAtPlaces world (start sites)) }
         ensures err { OnErr result (sites ≢ 0) }
@@ -202,8 +202,8 @@ impl World {
         Ok(World { hosts })
     }
 
-    /// Runs a schedule on. Where want of memory stops it, the sites stand after the steps that were
-    /// done and the first events of the next one. The time is that of the steps.
+    /// Runs a schedule of exchanges on. Where want of memory stops it, the sites stand after the
+    /// steps that were done and the first events of the next one. The time is that of the steps.
     pub fn run(&mut self, alloc: Global, steps: &Steps) -> Result<(), Stop>
         requires { AllByRecursion (FitsIn (length self.old)) steps.now }
         ensures sites { length self.new ≡ length self.old }

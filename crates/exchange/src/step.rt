@@ -43,7 +43,7 @@ impl Model for Steps {
 }
 
 impl Step {
-    /// Whether each site of the step is one of so many.
+    /// Whether each site of the step of a schedule is one of so many.
     fn fits(&self, sites: u32) -> bool
         ensures { IsTrue result ↔ FitsIn sites self.now }
     {
@@ -58,7 +58,7 @@ impl Step {
 }
 
 impl Steps {
-    /// No step. It takes no memory.
+    /// A schedule of exchanges without a step. It takes no memory.
     pub fn empty(alloc: Global) -> Steps
         ensures { result ≡ [] }
     {
@@ -67,14 +67,14 @@ impl Steps {
         }
     }
 
-    /// How many steps there are.
+    /// How many steps the schedule of exchanges has.
     pub fn len(&self) -> u64
         ensures { result ≡ length self.now }
     {
         self.items.len() as u64
     }
 
-    /// The step at a place, from 0.
+    /// The step of the schedule of exchanges at a place, from 0.
     pub fn at(&self, place: u64) -> &Step
         requires { place < length self.now }
         ensures { slice_get self.now place ≡ Some result.now }
@@ -82,7 +82,7 @@ impl Steps {
         &self.items[place as usize]
     }
 
-    /// Adds a step at the end, or hands it back where memory is refused.
+    /// Adds a step at the schedule's end, or hands it back where memory is refused.
     pub fn push(&mut self, step: Step) -> Result<(), AllocFailed<Step>>
         ensures ok { OnOk result (self.new ≡ self.old ++ step ∷ []) }
         ensures err { OnErr result (self.new ≡ self.old) }
@@ -91,7 +91,7 @@ impl Steps {
         self.items.push(step)
     }
 
-    /// Whether each site of each step is one of so many.
+    /// Whether each site of each step of the schedule is one of so many.
     pub fn fits(&self, sites: u32) -> bool
         ensures { IsTrue result ↔ AllByRecursion (FitsIn sites) self.now }
     {

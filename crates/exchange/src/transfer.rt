@@ -23,8 +23,8 @@ struct Moved {
     next: u64,
 }
 
-/// Moves the next events that the peer lacks from a place of key order on, as many as go at a time.
-/// After want of memory the answer is how many of them were taken.
+/// Gossip moves the next events that the peer lacks from a place of key order on, as many as go at
+/// a time. After want of memory the answer is how many of them were taken.
 fn move_part(
     from: &Site,
     to: &mut Site,
@@ -53,7 +53,7 @@ fn move_part(
     }
 }
 
-/// Moves all events of the first site that the peer lacks.
+/// Gossip one way: moves all events of the first site that the peer lacks.
 fn move_all(
     from: &Site,
     to: &mut Site,
@@ -123,9 +123,9 @@ pub fn gossip(from: &Site, to: &mut Site) -> Result<Counts, Short>
     move_all(from, to, &peer, &own, &among)
 }
 
-/// Brings the second site all events of the first, in key order; those that are there are not
-/// copied, and need no memory. After want of memory those that went before stay, and the refusal
-/// says how many. Costs what `Site::merge` does.
+/// A scrub: brings the second site all events of the first, in key order; those that are there are
+/// not copied, and need no memory. After want of memory those that went before stay, and the
+/// refusal says how many. Costs what `Site::merge` does.
 pub fn scrub(from: &Site, to: &mut Site) -> Result<Counts, Short>
     ensures brings { Brings to.old to.new (set_of from.now) result }
     ensures short_taken { IfErr result (λ s. s.taken < length (set_of from.now)) }

@@ -32,14 +32,14 @@ impl Model for World {
 }
 
 impl World {
-    /// How many sites there are.
+    /// How many sites the schedule's world has.
     pub fn sites(&self) -> u64
         ensures { result ≡ length self.now }
     {
         self.hosts.len() as u64
     }
 
-    /// The site of a number.
+    /// The site of a number in the schedule's world.
     pub fn site(&self, i: u64) -> &Site
         requires { i < length self.now }
         ensures { slice_get (map (λ h. h.site) self.now) i ≡ Some result.now }
@@ -47,7 +47,7 @@ impl World {
         &self.hosts[i as usize].site
     }
 
-    /// How many of the site's first arrivals outlast a restart.
+    /// How many of the site's first arrivals outlast a restart in the schedule.
     pub fn kept(&self, i: u64) -> u64
         requires { i < length self.now }
         ensures { slice_get (map (λ h. h.kept) self.now) i ≡ Some result }

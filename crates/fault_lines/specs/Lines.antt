@@ -13,11 +13,11 @@ use Rattle.fault_lines.specs.Member.{member_at_fault}
 use Rattle.fault_lines.specs.Place.{place}
 use Rattle.fault_lines.specs.Words.{fault_name, hint, whole_hint, whole_words}
 
--- a text as a JSON string
+-- a text as a JSON string, for a line about a file at fault
 abbrev pub string_text : List ℕ → List ℕ
 string_text words = compact_text (string words)
 
--- null, a truth value, a text, or a whole number of 64 bits
+-- a fault's line shows such a value: null, a truth value, a text, or a whole number of 64 bits
 abbrev pub is_plain_value : Data → Bool
 is_plain_value null = true
 is_plain_value (boolean b) = true
@@ -26,46 +26,46 @@ is_plain_value (string s) = true
 is_plain_value (array ds) = false
 is_plain_value (object ms) = false
 
--- a text of at most 200 bytes, as the member `value`; a longer one is left out
+-- a text of at most 200 bytes, as a fault line's member `value`; a longer one is left out
 abbrev pub if_short : List ℕ → List ℕ
 if_short text = if nat_le (length text) 200 then codes ",\"value\":" ++ text else []
 
--- the member `value` of a plain value, where it is short
+-- the member `value` of a fault's line, of a plain value, where it is short
 abbrev pub value_member : Option Data → List ℕ
 value_member None = []
 value_member (Some d) = if is_plain_value d then if_short (compact_text d) else []
 
--- the members `attribute` and `value`, where the fault is of a member of this name
+-- a fault line's members `attribute` and `value`, where the fault is of a member of this name
 abbrev pub attribute_and_value : Option (List ℕ) → Data → List ℕ
 attribute_and_value None tree = []
 attribute_and_value (Some name) tree =
     codes ",\"attribute\":" ++ (string_text name ++ value_member (get name tree))
 
--- the member `pointer`, where a number of the data is at fault: where in the event it stands
+-- a fault line's member `pointer`, where a number of the data is at fault: where it stands
 abbrev pub pointer_member : Option (List ℕ) → List ℕ
 pointer_member None = []
 pointer_member (Some at) = codes ",\"pointer\":" ++ string_text (codes "/data" ++ at)
 
--- where in the data of an event the fault is, if it is of a number there
+-- for a fault's line: where in an event's data the fault is, if it is of a number there
 abbrev pub place_at_fault : Fault → Data → Option (List ℕ)
 place_at_fault fault.DataNumber tree = option_and_then place (get (codes "data") tree)
 place_at_fault why tree = None
 
--- the members that tell where in an event a fault is
+-- the members of a fault's line that tell where in an event a fault is
 abbrev pub where_members : Fault → Data → List ℕ
 where_members why tree =
     attribute_and_value (member_at_fault why tree) tree ++ pointer_member (place_at_fault why tree)
 
--- the member `id`, where there is one
+-- the member `id` of a fault's line, where there is one
 abbrev pub id_member : Option (List ℕ) → List ℕ
 id_member None = []
 id_member (Some id) = codes ",\"id\":" ++ string_text id
 
--- the id of a member, where it is a text
+-- the id of a file's member at fault, where it is a text
 abbrev pub id_of_member : Data → Option (List ℕ)
 id_of_member tree = option_and_then as_str (get (codes "id") tree)
 
--- the line of a member at fault, where this is the file's name as a JSON string
+-- the line of a file's member at fault, where this is the file's name as a JSON string
 abbrev pub member_line : List ℕ → FaultyMember → List ℕ
 member_line file m =
     codes "{\"file\":" ++ (file ++ (codes ",\"index\":" ++ (decimal m.index
@@ -73,7 +73,7 @@ member_line file m =
     ++ (where_members m.fault m.tree
     ++ (codes ",\"hint\":\"" ++ (hint m.fault ++ (codes "\"}" ++ 10 ∷ [])))))))))))
 
--- a line for each member at fault
+-- a line for each member of a file at fault
 abbrev pub member_lines : List ℕ → List FaultyMember → List ℕ
 member_lines file told = flat_map (λ m. member_line file m) told
 
@@ -84,20 +84,20 @@ line_with file words hint =
     codes "{\"file\":" ++ (file ++ (codes ",\"fault\":\"" ++ (words
     ++ (codes "\",\"hint\":\"" ++ (hint ++ (codes "\"}" ++ 10 ∷ []))))))
 
--- so it is where it is refused for this
+-- the line of a file that is refused as a whole, for this reason
 abbrev pub whole_file_line : List ℕ → ReadFault → List ℕ
 whole_file_line file why = line_with file (whole_words why) (whole_hint why)
 
--- the bytes are an event or a batch, and the text has a line for each member at fault
+-- the file's bytes are an event or a batch, and the text has a line for each member at fault
 abbrev pub TellsMembers : List ℕ → List ℕ → List ℕ → Type 0
 TellsMembers name b text = (told : List FaultyMember) × TellsFaulty b told
     × (text ≡ member_lines (string_text name) told)
 
--- the bytes are refused as a whole, and the text is the line that says why
+-- the file's bytes are refused as a whole, and the text is the line that says why
 abbrev pub TellsWhole : List ℕ → List ℕ → List ℕ → Type 0
 TellsWhole name b text = (why : ReadFault) × RefusesWhole b why
     × (text ≡ whole_file_line (string_text name) why)
 
--- what is said of the file of that name and these bytes
+-- what is said in lines of the file of that name and these bytes
 abbrev pub IsFaultText : List ℕ → List ℕ → List ℕ → Type 0
 IsFaultText name b text = TellsMembers name b text ⊎ TellsWhole name b text

@@ -8,16 +8,16 @@ use Rattle.std.specs.Str.{chars}
 use Rattle.serde_json.specs.Data.{Data, null, boolean, number, string, array, object, Items, no_items, item, Members, no_members, member}
 use Rattle.serde_json.specs.Find.{is_float}
 
--- a character of a name: `~` as `~0`, `/` as `~1`, any other as it is
+-- in a fault line's pointer, a character of a name: `~` as `~0`, `/` as `~1`, any other as it is
 abbrev pub key_char : ℕ → List ℕ
 key_char c = if c == 126 then 126 ∷ 48 ∷ [] else if c == 47 then 126 ∷ 49 ∷ [] else encode_utf8 c
 
--- a name within a pointer
+-- a name within the JSON pointer of a fault's line
 abbrev pub name_in_pointer : List ℕ → List ℕ
 name_in_pointer name = flat_map key_char (chars name)
 
--- the place in a value: of an array's items the first that has one, of an object's members the first
--- in the order of their names
+-- the place in a value, for a fault line's JSON pointer: of an array's items the first that has
+-- one, of an object's members the first in the order of their names
 abbrev mutual
   pub place : Data → Option (List ℕ)
   place null = None

@@ -5,10 +5,10 @@ use Rattle.attributes.specs.Event.{EventValue}
 use Rattle.attributes.specs.Sequence.{number_of}
 use Rattle.event_json.specs.Reading.{Reads}
 
--- each event has a number
+-- each event of a file has a number, so no line is said of it
 abbrev pub HaveAllNumbers : List EventValue → Type 0
 HaveAllNumbers events = list_all (λ e. is_some (number_of e)) events ≡ true
 
--- the bytes spell events that all have numbers
+-- a file of which no line is said: its bytes spell events that all have numbers
 abbrev pub IsGood : List ℕ → Type 0
 IsGood b = (events : List EventValue) × Reads b events × HaveAllNumbers events

@@ -5,7 +5,7 @@ use Rattle.attributes.specs.declared.fault.Fault.TheVariants as fault
 use Rattle.event_json.specs.declared.fault.ReadFault.{ReadFault}
 use Rattle.event_json.specs.declared.fault.ReadFault.TheVariants as read
 
--- the name of a fault, as it is printed
+-- the name of a fault, as it is printed in a line about a file
 abbrev pub fault_name : Fault → List ℕ
 fault_name fault.OutOfMemory = codes "OutOfMemory"
 fault_name fault.SpecVersion = codes "SpecVersion"
@@ -26,7 +26,7 @@ fault_name fault.TooLarge = codes "TooLarge"
 fault_name fault.NoSequence = codes "NoSequence"
 fault_name fault.BadSequence = codes "BadSequence"
 
--- the member that a fault is of, where that is always the same
+-- the member to tell in a fault's line, where the fault is always of the same one
 abbrev pub attribute_name : Fault → Option (List ℕ)
 attribute_name fault.OutOfMemory = None
 attribute_name fault.SpecVersion = Some (codes "specversion")
@@ -47,7 +47,7 @@ attribute_name fault.TooLarge = None
 attribute_name fault.NoSequence = Some (codes "sequence")
 attribute_name fault.BadSequence = Some (codes "sequence")
 
--- what to do about a fault
+-- what to do about an event's fault, in the words of a line about a file
 abbrev pub hint : Fault → List ℕ
 hint fault.OutOfMemory = codes "memory ran out"
 hint fault.SpecVersion = codes "an event is an object whose specversion is the text 1.0"
@@ -76,7 +76,7 @@ hint fault.NoSequence =
 hint fault.BadSequence =
     codes "a sequence is a text of twenty digits, from 1 to 9223372036854775807: pad it with zeros on the left"
 
--- why bytes are refused as a whole
+-- why a file's bytes are refused as a whole, in the words of its line
 abbrev pub whole_words : ReadFault → List ℕ
 whole_words read.OutOfMemory = codes "out of memory"
 whole_words read.NotJson = codes "not JSON"
@@ -84,7 +84,7 @@ whole_words read.NotEvent = codes "not an event or a batch"
 whole_words (read.BadEvent index why) = codes "not an event or a batch"
 whole_words read.InputTooLarge = codes "too large"
 
--- what to do about that
+-- what to do about a file's bytes that are refused as a whole, in the words of its line
 abbrev pub whole_hint : ReadFault → List ℕ
 whole_hint read.OutOfMemory = codes "memory ran out"
 whole_hint read.NotJson =

@@ -36,7 +36,7 @@ pub fn fault_lines(alloc: Global, name: &Text, bytes: &[u8]) -> Result<Text, All
     Ok(Text::from_string(text))
 }
 
-/// A text as a JSON string.
+/// A text as a JSON string, for a line about a file at fault.
 fn string_text(alloc: Global, words: &str) -> Result<String, AllocError>
     ensures { IfOk result (λ text. string_bytes text ≡ string_text words.now) }
 {
@@ -55,14 +55,14 @@ pub fn whole_line(alloc: Global, name: &Text, words: &str, hint: &str) -> Result
     Ok(Text::from_string(line))
 }
 
-/// The line of a file that is refused as a whole.
+/// The fault line of a file that is refused as a whole.
 fn file_line(alloc: Global, file: &str, fault: ReadFault) -> Result<String, AllocError>
     ensures { IfOk result (λ text. string_bytes text ≡ whole_file_line file.now fault) }
 {
     line_with(alloc, file, whole_words(fault), whole_hint(fault))
 }
 
-/// The line of a file whose name is this JSON string, with these words.
+/// The fault line of a file whose name is this JSON string, with these words.
 fn line_with(alloc: Global, file: &str, words: &str, hint: &str) -> Result<String, AllocError>
     ensures { IfOk result (λ text.
         string_bytes text ≡ line_with file.now words.now hint.now) }
@@ -73,7 +73,7 @@ fn line_with(alloc: Global, file: &str, words: &str, hint: &str) -> Result<Strin
     Ok(line)
 }
 
-/// The lines of members at fault.
+/// The fault lines of a file's members at fault.
 fn member_lines(alloc: Global, file: &str, members: &[Faulty]) -> Result<String, AllocError>
     ensures { IfOk result (λ text.
         string_bytes text ≡ member_lines file.now (map member_of members.now)) }
@@ -86,7 +86,7 @@ fn member_lines(alloc: Global, file: &str, members: &[Faulty]) -> Result<String,
     Ok(out)
 }
 
-/// The line of a member at fault.
+/// The fault line of a member of a file.
 fn member_line(alloc: Global, file: &str, member: &Faulty) -> Result<String, AllocError>
     ensures { IfOk result (λ text.
         string_bytes text ≡ member_line file.now (member_of member.now)) }
@@ -102,7 +102,7 @@ fn member_line(alloc: Global, file: &str, member: &Faulty) -> Result<String, All
     Ok(line)
 }
 
-/// The id of a member, where it is a text.
+/// The id of a file's member at fault, where it is a text.
 fn id_of(tree: &Value) -> Option<&str>
     ensures { option_copied result ≡ id_of_member (view tree.now) }
 {
@@ -112,7 +112,7 @@ fn id_of(tree: &Value) -> Option<&str>
     }
 }
 
-/// The member `id`, where there is one.
+/// The member `id` of a fault's line, where there is one.
 fn id_member(alloc: Global, id: Option<&str>) -> Result<String, AllocError>
     ensures { IfOk result (λ text. string_bytes text ≡ id_member (option_copied id.entry)) }
 {
@@ -125,7 +125,7 @@ fn id_member(alloc: Global, id: Option<&str>) -> Result<String, AllocError>
     }
 }
 
-/// The members that tell where in an event a fault is.
+/// The members of a fault's line that tell where in an event the fault is.
 fn where_members(alloc: Global, fault: Fault, tree: &Value) -> Result<String, AllocError>
     ensures { IfOk result (λ text. string_bytes text ≡ where_members fault (view tree.now)) }
 {
@@ -135,7 +135,7 @@ fn where_members(alloc: Global, fault: Fault, tree: &Value) -> Result<String, Al
     Ok(text)
 }
 
-/// The members `attribute` and `value` of a fault of one member.
+/// The members `attribute` and `value` of a fault's line, for a fault of one member.
 fn attribute_members(alloc: Global, fault: Fault, tree: &Value) -> Result<String, AllocError>
     ensures { IfOk result (λ text. string_bytes text
         ≡ attribute_and_value (member_at_fault fault (view tree.now)) (view tree.now)) }
@@ -151,7 +151,7 @@ fn attribute_members(alloc: Global, fault: Fault, tree: &Value) -> Result<String
     }
 }
 
-/// The member `pointer`, where a number of the data is at fault; else nothing.
+/// The member `pointer` of a fault's line, where a number of the data is at fault; else nothing.
 fn pointer_member(alloc: Global, fault: Fault, tree: &Value) -> Result<String, AllocError>
     ensures { IfOk result (λ text. string_bytes text
         ≡ pointer_member (place_at_fault fault (view tree.now))) }
@@ -166,7 +166,7 @@ fn pointer_member(alloc: Global, fault: Fault, tree: &Value) -> Result<String, A
     }
 }
 
-/// Where in the data of an event the fault is, if it is of a number there.
+/// Where in the data of a file's faulty event the fault is, if it is of a number there.
 fn place_at_fault(alloc: Global, fault: Fault, tree: &Value) -> Result<Option<String>, AllocError>
     ensures { IfOk result (λ found. option_map string_bytes found
         ≡ place_at_fault fault (view tree.now)) }
@@ -177,7 +177,7 @@ fn place_at_fault(alloc: Global, fault: Fault, tree: &Value) -> Result<Option<St
     }
 }
 
-/// The member `value`, where there is a value, and it is plain and short; else nothing.
+/// The member `value` of a fault's line, where a value is there, plain and short; else nothing.
 fn value_member(alloc: Global, value: Option<&Value>) -> Result<String, AllocError>
     ensures { IfOk result (λ text. string_bytes text
         ≡ value_member (option_map (λ v. view v.now) value.entry)) }
@@ -188,7 +188,7 @@ fn value_member(alloc: Global, value: Option<&Value>) -> Result<String, AllocErr
     }
 }
 
-/// The member `value` of a value that is there, where it is plain and short; else nothing.
+/// A fault line's member `value`, of a value that is there, where plain and short; else nothing.
 fn plain_member(alloc: Global, value: &Value) -> Result<String, AllocError>
     ensures { IfOk result (λ text. string_bytes text ≡ value_member (Some (view value.now))) }
 {
@@ -199,7 +199,7 @@ fn plain_member(alloc: Global, value: &Value) -> Result<String, AllocError>
     }
 }
 
-/// Whether a value is null, a truth value, a text, or a whole number of 64 bits.
+/// Whether a fault's line may show a value: null, truth value, text, or whole number of 64 bits.
 fn is_plain(value: &Value) -> bool
     ensures plain { result ≡ is_plain_value (view value.now) }
     ensures whole { result ≡ true → has_float (view value.now) ≡ false }
@@ -214,7 +214,7 @@ fn is_plain(value: &Value) -> bool
     }
 }
 
-/// A text as the member `value`, where it is short.
+/// A text as the member `value` of a fault's line, where it is short.
 fn if_short(alloc: Global, text: String) -> Result<String, AllocError>
     ensures { IfOk result (λ member. string_bytes member ≡ if_short (string_bytes text)) }
 {

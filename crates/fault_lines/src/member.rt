@@ -15,8 +15,8 @@ use crate::words::attribute_name;
 use attributes::Fault;
 use serde_json::{Map, Number, Value};
 
-/// The name of the member that a fault is of: of a name or a value that no attribute has the first
-/// in the order of names, of another fault always the same, if it has one.
+/// The name of the member that a fault's line tells: of a name or a value that no attribute has the
+/// first in the order of names, of another fault always the same, if it has one.
 pub fn member_at_fault<'a>(fault: Fault, tree: &'a Value) -> Option<&'a str>
     ensures { option_copied result ≡ member_at_fault fault (view tree.now) }
 {
@@ -27,7 +27,7 @@ pub fn member_at_fault<'a>(fault: Fault, tree: &'a Value) -> Option<&'a str>
     }
 }
 
-/// The name of the first member of an object that no attribute may have as its name.
+/// The name to tell in a fault's line: an object's first member that no attribute may have.
 fn first_misnamed(tree: &Value) -> Option<&str>
     ensures { option_copied result ≡ first_where is_misnamed (members_in (view tree.now)) }
 {
@@ -37,7 +37,7 @@ fn first_misnamed(tree: &Value) -> Option<&str>
     }
 }
 
-/// The name of the first member of an object whose value no attribute may have.
+/// The name to tell in a fault's line: an object's first member whose value no attribute may have.
 fn first_unfit(tree: &Value) -> Option<&str>
     ensures { option_copied result ≡ first_where is_unfit (members_in (view tree.now)) }
 {
@@ -47,7 +47,7 @@ fn first_unfit(tree: &Value) -> Option<&str>
     }
 }
 
-/// The same, of an object's members.
+/// The name for a fault's line: of these members the first whose name no attribute may have.
 fn misnamed_of(members: &Map<String, Value>) -> Option<&str>
     ensures { option_copied result ≡ first_where is_misnamed (members_view members.now.entries) }
 {
@@ -59,7 +59,7 @@ fn misnamed_of(members: &Map<String, Value>) -> Option<&str>
     None
 }
 
-/// The same, of an object's members.
+/// The name for a fault's line: of these members the first whose value no attribute may have.
 fn unfit_of(members: &Map<String, Value>) -> Option<&str>
     ensures { option_copied result ≡ first_where is_unfit (members_view members.now.entries) }
 {
@@ -71,28 +71,28 @@ fn unfit_of(members: &Map<String, Value>) -> Option<&str>
     None
 }
 
-/// Whether a member that is set, without data, has a name that no attribute has.
+/// For a fault's line: whether a set member, without data, has a name that no attribute has.
 fn is_misnamed(name: &str, value: &Value) -> bool
     ensures { result ≡ is_misnamed name.now (view value.now) }
 {
     !is_payload(name) && !value.is_null() && !is_name(name)
 }
 
-/// Whether a member without data has a value that no attribute has.
+/// For a fault's line: whether a member without data has a value that no attribute has.
 fn is_unfit(name: &str, value: &Value) -> bool
     ensures { result ≡ is_unfit name.now (view value.now) }
 {
     !is_payload(name) && !is_fit(value)
 }
 
-/// Whether a member of that name carries data.
+/// For a fault's line: whether a member of that name carries data.
 fn is_payload(name: &str) -> bool
     ensures { result ≡ is_payload name.now }
 {
     name == "data" || name == "data_base64"
 }
 
-/// Whether a value is unset or that of an attribute.
+/// For a fault's line: whether a member's value is unset or that of an attribute.
 fn is_fit(value: &Value) -> bool
     ensures { result ≡ is_fit (given_in (view value.now)) }
 {
@@ -106,7 +106,7 @@ fn is_fit(value: &Value) -> bool
     }
 }
 
-/// Whether a number is a whole one of 32 bits.
+/// For a fault's line: whether a member's number is a whole one of 32 bits.
 fn is_integer(number: &Number) -> bool
     ensures { result ≡ is_attribute (given_whole (as_i64 (number_view number.now))) }
 {
@@ -116,35 +116,35 @@ fn is_integer(number: &Number) -> bool
     }
 }
 
-/// Whether no character is a control character.
+/// For a fault's line: whether no character of a member is a control character.
 fn is_printable(text: &str) -> bool
     ensures { result ≡ is_printable text.now }
 {
     text.chars().all(|c| !c.is_control())
 }
 
-/// Whether a byte is a lower-case letter or a digit of ASCII.
+/// For a fault's line: whether a byte of a name is a lower-case letter or a digit of ASCII.
 fn is_name_byte(byte: u8) -> bool
     ensures { result ≡ is_name_byte byte }
 {
     (byte >= b'a' && byte <= b'z') || (byte >= b'0' && byte <= b'9')
 }
 
-/// Whether each byte is.
+/// For a fault's line: whether each byte of a name is a lower-case letter or a digit of ASCII.
 fn are_name_bytes(name: &str) -> bool
     ensures { result ≡ list_all is_name_byte name.now }
 {
     name.bytes().all(|b| is_name_byte(b))
 }
 
-/// Whether it is the name `data`.
+/// For a fault's line: whether a member's name is `data`.
 fn is_data(name: &str) -> bool
     ensures { result ≡ bytes_eq name.now (codes "data") }
 {
     name == "data"
 }
 
-/// Whether it is a name of an attribute.
+/// For a fault's line: whether a member's name is one of an attribute.
 fn is_name(name: &str) -> bool
     ensures { result ≡ is_name name.now }
 {

@@ -7,9 +7,9 @@ ghost use Rattle.fault_lines.specs.Place.{items_place, key_char, name_in_pointer
 use serde_json::{Map, Value};
 use std::alloc::{AllocError, Global};
 
-/// The JSON pointer (RFC 6901) of the first number within a value that isn't whole or doesn't fit
-/// 64 bits, if there is one; an object's members are looked at in the order of their names. Time in
-/// proportion to the value.
+/// The JSON pointer (RFC 6901) for a fault's line: of the first number within a value that isn't
+/// whole or doesn't fit 64 bits, if there is one; an object's members are looked at in the order of
+/// their names. Time in proportion to the value.
 #[cycle(places)]
 pub(crate) fn place(alloc: Global, value: &Value) -> Result<Option<String>, AllocError>
     ensures { IfOk result (λ found. option_map string_bytes found ≡ place (view value.now)) }
@@ -28,7 +28,7 @@ pub(crate) fn place(alloc: Global, value: &Value) -> Result<Option<String>, Allo
     }
 }
 
-/// The same, of an array's items.
+/// The JSON pointer for a fault's line, of the first such number of an array's items.
 #[cycle(places)]
 fn items_place(alloc: Global, items: &[Value]) -> Result<Option<String>, AllocError>
     ensures { IfOk result (λ found. option_map string_bytes found ≡ items_place 0 (items_view items.now)) }
@@ -42,7 +42,7 @@ fn items_place(alloc: Global, items: &[Value]) -> Result<Option<String>, AllocEr
     Ok(None)
 }
 
-/// The same, of an object's members.
+/// The JSON pointer for a fault's line, of the first such number of an object's members.
 #[cycle(places)]
 fn members_place(alloc: Global, members: &Map<String, Value>) -> Result<Option<String>, AllocError>
     ensures { IfOk result (λ found. option_map string_bytes found ≡ members_place (members_view members.now.entries)) }
@@ -57,7 +57,7 @@ fn members_place(alloc: Global, members: &Map<String, Value>) -> Result<Option<S
     Ok(None)
 }
 
-/// A name within a pointer.
+/// A name within the JSON pointer of a fault's line.
 fn key_text(alloc: Global, name: &str) -> Result<String, AllocError>
     ensures { IfOk result (λ key. string_bytes key ≡ name_in_pointer name.now) }
 {
@@ -68,7 +68,7 @@ fn key_text(alloc: Global, name: &str) -> Result<String, AllocError>
     Ok(key)
 }
 
-/// Appends a character of a name.
+/// Appends a character of a name to the JSON pointer of a fault's line.
 fn push_key_char(key: &mut String, c: char) -> Result<(), AllocError>
     ensures { OnOk result (string_bytes key.new ≡ string_bytes key.old ++ key_char c) }
 {

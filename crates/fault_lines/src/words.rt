@@ -7,7 +7,7 @@ ghost use Rattle.fault_lines.specs.Words.{attribute_name, fault_name, hint, whol
 use attributes::Fault;
 use event_json::ReadFault;
 
-/// The name of a fault, as it is printed.
+/// The name of an event's fault, as it is printed in a line about a file.
 pub fn fault_name<'a>(fault: Fault) -> &'a str
     ensures { result.now ≡ fault_name fault }
 {
@@ -33,7 +33,7 @@ pub fn fault_name<'a>(fault: Fault) -> &'a str
     }
 }
 
-/// The member that a fault is of, where that is always the same.
+/// The member to tell in a fault's line, where the fault is always of the same one.
 pub fn attribute_name<'a>(fault: Fault) -> Option<&'a str>
     ensures { option_copied result ≡ attribute_name fault }
 {
@@ -59,7 +59,7 @@ pub fn attribute_name<'a>(fault: Fault) -> Option<&'a str>
     }
 }
 
-/// What to do about the fault of an event, in words of people.
+/// What to do about the fault of an event, in words of people, for a line about a file.
 pub fn hint<'a>(fault: Fault) -> &'a str
     ensures { result.now ≡ hint fault }
 {
@@ -93,7 +93,7 @@ pub fn hint<'a>(fault: Fault) -> &'a str
     }
 }
 
-/// Why bytes are refused as a whole.
+/// Why a file's bytes are refused as a whole, for its line.
 pub fn whole_words<'a>(fault: ReadFault) -> &'a str
     ensures { result.now ≡ whole_words fault }
 {
@@ -106,7 +106,7 @@ pub fn whole_words<'a>(fault: ReadFault) -> &'a str
     }
 }
 
-/// What to do about bytes that are refused as a whole, in words of people.
+/// What to do about a file's bytes that are refused as a whole, in words of people, for its line.
 pub fn whole_hint<'a>(fault: ReadFault) -> &'a str
     ensures { result.now ≡ whole_hint fault }
 {

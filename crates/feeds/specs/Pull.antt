@@ -17,30 +17,30 @@ use Rattle.feeds.specs.Report.{CountsHandled, EndsEarly, Handles, HasCause, IsRe
 use Rattle.feeds.specs.declared.report.WorkerEnd.TheVariants.{Done, GateShut, OutOfMemory}
 use Rattle.feeds.specs.declared.report.Report.{Report}
 
--- the events of a page; any other reply has none
+-- the events of a page that a pull got; any other reply has none
 abbrev pub events_in : Reply → List EventValue
 events_in (Paged events) = events
 events_in _ = []
 
--- the events of the replies, in order
+-- the events of the replies to a pull, in order
 abbrev pub replied : List Call → List EventValue
 replied [] = []
 replied (c ∷ cs) = events_in c.reply ++ replied cs
 
--- each call asks for at most 100 events of what a peer lacks by its summary, from the place on to
--- which the replies before it came
+-- each call of a pull asks for at most 100 events of what a peer lacks by its summary, from the
+-- place on to which the replies before it came
 abbrev pub ArePages : Sources → ℕ → List Call → Type 0
 ArePages peer place [] = Unit {0}
 ArePages peer place (c ∷ cs) = (c.command ≡ command.DeltaPage peer place max_page)
     × ArePages peer (place + length (events_in c.reply)) cs
 
--- the last call got an empty page
+-- the last call of a pull got an empty page
 abbrev pub EndsEmpty : List Call → Type 0
 EndsEmpty [] = ⊥
 EndsEmpty (c ∷ []) = c.reply ≡ Paged []
 EndsEmpty (c ∷ d ∷ ds) = EndsEmpty (d ∷ ds)
 
--- each of the events is among the arrivals
+-- each of the events that a pull brings is among the desk's arrivals
 abbrev pub HoldsEach : List EventValue → List EventValue → Type 0
 HoldsEach A events = AllByRecursion (λ e. has key_cmp A e ≡ true) events
 
@@ -70,8 +70,8 @@ abbrev pub Pulls : List Call → List Call → Report → Type 0
 Pulls m n r = IsPullUnbegun m n r ⊎ ((peer : Sources) × (takes : List Call)
     × (n ≡ call command.Summary (Summed peer) ∷ takes) × Pulled peer m takes r)
 
--- by these calls a desk that now has the arrivals B got all that the summary which it told lacked
--- of the events A
+-- by a pull's calls a desk that now has the arrivals B got all that the summary which it told
+-- lacked of the events A
 pub record BringsLacking (A : List EventValue) (n : List Call) (B : List EventValue) : Type 0 where
   pub peer : Sources
   pub takes : List Call
@@ -85,6 +85,6 @@ pub record BringsLacking (A : List EventValue) (n : List Call) (B : List EventVa
 abbrev pub PullsBy : List EventValue → List Call → List Call → List EventValue → Report → Type 0
 PullsBy A m n B r = Runs A m A × Pulls m n r × (r.ended ≡ Done → BringsLacking A n B)
 
--- so it is by some calls of the site
+-- so it is of a pull by some calls of the site
 abbrev pub PullsFrom : List EventValue → List Call → List EventValue → Report → Type 0
 PullsFrom A n B r = (m : List Call) × Runs A m A × Pulls m n r × (r.ended ≡ Done → BringsLacking A n B)

@@ -19,24 +19,24 @@ use Rattle.feeds.specs.declared.report.WorkerEnd.TheVariants.{BadInput, Done, Ga
 use Rattle.feeds.specs.declared.report.Report.{Report}
 use Rattle.feeds.specs.declared.report.Tally.{Tally}
 
--- whether an event has a valid number
+-- whether an event that a worker reads has a valid number
 abbrev pub is_with_number : EventValue → Bool
 is_with_number e = is_some (number_of e)
 
--- the events that have a number
+-- the events of a worker's input that have a number
 abbrev pub sequenced : List EventValue → List EventValue
 sequenced L = filter is_with_number L
 
--- and those that have none
+-- the events of a worker's input that have no number
 abbrev pub unsequenced : List EventValue → List EventValue
 unsequenced L = filter (λ e. not (is_with_number e)) L
 
--- the events that the calls handled, in their order
+-- the events that a worker's calls handled, in their order
 abbrev pub handled : List Call → List EventValue
 handled [] = []
 handled (c ∷ cs) = handled_by c.command c.reply ++ handled cs
 
--- how many events were new by a reply, and how many were there
+-- how many events were new by a reply to a worker, and how many were there
 abbrev pub fresh_by : Reply → ℕ
 fresh_by (Took fresh repeated) = fresh
 fresh_by (Refused taken fresh) = fresh
@@ -47,7 +47,7 @@ repeated_by (Took fresh repeated) = repeated
 repeated_by (Refused taken fresh) = taken - fresh
 repeated_by _ = 0
 
--- the sums over the calls
+-- the sums over a worker's calls of the events that were new, and of those that were there
 abbrev pub fresh_of : List Call → ℕ
 fresh_of [] = 0
 fresh_of (c ∷ cs) = fresh_by c.reply + fresh_of cs
@@ -56,7 +56,7 @@ abbrev pub repeated_of : List Call → ℕ
 repeated_of [] = 0
 repeated_of (c ∷ cs) = repeated_by c.reply + repeated_of cs
 
--- the command hands a batch over, of at most a page of events
+-- the worker's command hands a batch to the desk, of at most a page of events
 abbrev pub IsTake : Command → Type 0
 IsTake (command.Take L) = length L ≤ max_page
 IsTake _ = ⊥
@@ -65,13 +65,13 @@ abbrev pub AreTakes : List Call → Type 0
 AreTakes [] = Unit {0}
 AreTakes (c ∷ cs) = IsTake c.command × AreTakes cs
 
--- the calls are takes, which handled the first of these events, in their order
+-- the worker's calls are takes, which handled the first of these events, in their order
 pub record Handles (m : List Call) (events : List EventValue) : Type 0 where
   pub takes : AreTakes m
   pub rest : List EventValue
   pub order : handled m ++ rest ≡ events
 
--- the report counts the events that the calls handled
+-- the worker's report counts the events that its calls handled
 pub record CountsHandled (m : List Call) (r : Report) : Type 0 where
   pub fresh : r.fresh ≡ fresh_of m
   pub repeated : r.repeated ≡ repeated_of m
@@ -85,16 +85,16 @@ EndsEarly GateShut = Unit {0}
 EndsEarly Done = ⊥
 EndsEarly (BadInput fault) = ⊥
 
--- the reply says that the call was refused, for want of memory
+-- the reply says that the worker's call was refused, for want of memory
 abbrev pub IsRefusedReply : Reply → Type 0
 IsRefusedReply (Refused taken fresh) = Unit {0}
 IsRefusedReply _ = ⊥
 
--- none of the calls was refused
+-- none of the worker's calls was refused
 abbrev pub AreAnswered : List Call → Type 0
 AreAnswered m = AllByRecursion (λ c. IsRefusedReply c.reply → ⊥) m
 
--- the last of the calls was refused, and no other
+-- the last of the worker's calls was refused, and no other
 pub record EndsRefused (m : List Call) : Type 0 where
   pub before : List Call
   pub last : Call
@@ -106,7 +106,7 @@ pub record EndsRefused (m : List Call) : Type 0 where
 abbrev pub HasCause : List Call → WorkerEnd → Type 0
 HasCause m ended = AreAnswered m ⊎ (EndsRefused m × (ended ≡ OutOfMemory))
 
--- so it is of one that ended, if it did
+-- of a worker that ended, if it did: no call was refused, or the last alone, and that is why
 abbrev pub HasCauseIf : List Call → Option WorkerEnd → Type 0
 HasCauseIf m None = AreAnswered m
 HasCauseIf m (Some ended) = HasCause m ended
@@ -126,7 +126,7 @@ pub record TellsReport (events : List EventValue) (m : List Call) (r : Report) :
   pub cause : HasCause m r.ended
   pub done : r.ended ≡ Done → (handled m ≡ sequenced events) × (r.read ≡ length events)
 
--- the report with these counts
+-- the worker's report with these counts
 abbrev pub reported : Tally → WorkerEnd → Report
 reported t ended = record {
   read = t.fresh + t.repeated + t.refused;

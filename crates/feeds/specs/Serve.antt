@@ -16,7 +16,7 @@ use Rattle.feeds.specs.declared.serving.ServeFault.{ServeFault}
 use Rattle.feeds.specs.declared.serving.ServeFault.TheVariants.{NoThread, OutOfMemory}
 use Rattle.feeds.specs.declared.serving.Served.{Served}
 
--- the number of each fault
+-- the number of each fault of a start of workers
 abbrev pub fault_number : ServeFault → ℕ
 fault_number OutOfMemory = 1
 fault_number NoThread = 2
@@ -26,7 +26,7 @@ fault_number NoThread = 2
 abbrev pub worker_of : ShownPass → ℕ → List ℕ
 worker_of p place = p.number ++ (p.splits + place) ∷ []
 
--- the history has just these calls under this number
+-- the history has just these calls under this worker's number
 abbrev pub HasCalls : List (Entry Call) → List ℕ → List Call → Type 0
 HasCalls seen number calls = made_by number seen ≡ map (entry number) calls
 
@@ -53,8 +53,8 @@ module _ (lets shuts heard : ℕ → ℕ → Type 0) where
   WorkerAsks p q place queries r = (m : List Call) × HasCalls q.seen (worker_of p place) m
       × Asks queries m r × IsGated lets shuts heard place (length m) r.ended
 
--- the two lists have one length, and this holds of what stands at each place, where the first place
--- has this number
+-- of workers by their places: the two lists have one length, and this holds of what stands at each
+-- place, where the first place has this number
 abbrev pub EachAt : {A : Type 0} → {B : Type 0} → (ℕ → A → B → Type 0) → ℕ → List A → List B
     → Type 0
 EachAt Holds place [] [] = Unit {0}

@@ -8,7 +8,7 @@ pub trait Aside {
     // What it may come to from a state.
     ghost moves: { Self → Self → Type 0 };
 
-    /// Does one turn. False stops the work, though not the workers.
+    /// Does one turn of the work beside the workers. False stops it, though not the workers.
     fn turn(&mut self) -> bool
         ensures { moves self.old self.new };
 

@@ -24,8 +24,8 @@ pub struct Asked {
     pub ended: WorkerEnd,
 }
 
-/// Asks a question in the call behind the first `call`, where the gate lets it, and keeps the
-/// answer. What comes back is why the worker ends, if it does.
+/// A worker asks a desk a question in the call behind the first `call`, where the gate lets it, and
+/// keeps the answer. What comes back is why the worker ends, if it does.
 fn ask_one<D: Desk, G: Gate>(
     desk: &mut D,
     gate: &G,

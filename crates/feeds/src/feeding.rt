@@ -14,7 +14,7 @@ use event_json::{ReadFault, read_events};
 use site::{Desk, Gate};
 use std::alloc::{AllocError, Global};
 
-/// Puts an event into the batch, or passes over one that has no number.
+/// A feed puts an event into the batch, or passes over one that has no number.
 fn pass_on(batch: &mut Batch, tally: &mut Tally, event: Event) -> Result<(), AllocError>
     requires { tally.old.refused + 1 < 2 ^ 64 }
     ensures { MatchResult result
@@ -33,7 +33,7 @@ fn pass_on(batch: &mut Batch, tally: &mut Tally, event: Event) -> Result<(), All
     }
 }
 
-/// Hands the events to the desk, in batches. The answer is why it ended.
+/// The worker hands its events to the desk, in batches. The answer is why it ended.
 fn hand_over<D: Desk, G: Gate>(
     alloc: Global,
     desk: &mut D,
@@ -69,7 +69,7 @@ fn hand_over<D: Desk, G: Gate>(
     }
 }
 
-/// Brings the events to the desk.
+/// The report of a worker that brings the events to the desk.
 fn feed_events<D: Desk, G: Gate>(
     alloc: Global,
     desk: &mut D,
@@ -88,7 +88,7 @@ fn feed_events<D: Desk, G: Gate>(
     tally.report(ended)
 }
 
-/// The report of an input that was not read.
+/// The report of a worker whose input was not read.
 fn unread(fault: ReadFault) -> Report
     ensures { result ≡ unread fault }
 {

@@ -12,7 +12,7 @@ use attributes::Batch;
 use inbox::Short;
 use site::{Desk, DeskFault, Gate, MAX_PAGE};
 
-/// How far a refused call came.
+/// How far a worker's refused call came.
 fn short_of(fault: DeskFault) -> Short
     ensures { result ≡ short_of fault }
 {
@@ -21,8 +21,8 @@ fn short_of(fault: DeskFault) -> Short
     }
 }
 
-/// Hands over a batch in one call, where the gate lets it. The answer is why the worker ends, if it
-/// does.
+/// The worker hands over a batch to the desk in one call, where the gate lets it. The answer is why
+/// the worker ends, if it does.
 pub(crate) fn flush<D: Desk, G: Gate>(
     desk: &mut D,
     gate: &G,
@@ -63,7 +63,7 @@ pub(crate) fn flush<D: Desk, G: Gate>(
     ended
 }
 
-/// Hands over a batch that is full. Else it does nothing.
+/// The worker hands a batch that is full to the desk. Else it does nothing.
 pub(crate) fn flush_full<D: Desk, G: Gate>(
     desk: &mut D,
     gate: &G,

@@ -42,8 +42,8 @@ fn summary_of<E: Desk, G: Gate>(to: &mut E, gate: &G, worker: u64) -> Result<Sum
     }
 }
 
-/// The next page of what the peer lacks, in one call, where the gate lets it; else why the worker
-/// ends. All events of the pages before have been handed over, so their count is the place.
+/// A pull's next page of what the peer lacks, in one call, if the gate lets it; else why the worker
+/// ends. All events of pages before have been handed over, so their count is the place.
 fn next_page<D: Desk, G: Gate>(
     from: &mut D,
     gate: &G,
@@ -74,8 +74,8 @@ fn next_page<D: Desk, G: Gate>(
     }
 }
 
-/// Moves the next page of what the peer lacks. The answer is why the worker ends, if it does: it is
-/// done where the page is empty.
+/// A pull moves the next page of what the peer lacks. The answer is why the worker ends, if it
+/// does: it is done where the page is empty.
 fn move_page<D: Desk, E: Desk, G: Gate>(
     from: &mut D,
     to: &mut E,
@@ -104,7 +104,7 @@ fn move_page<D: Desk, E: Desk, G: Gate>(
     flush(to, gate, worker, &mut batch, tally)
 }
 
-/// Moves all that the peer lacks, page by page. The answer is why it ended.
+/// A pull moves all that the peer lacks, page by page. The answer is why the worker ended.
 fn pull_pages<D: Desk, E: Desk, G: Gate>(
     from: &mut D,
     to: &mut E,

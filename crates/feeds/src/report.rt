@@ -39,7 +39,7 @@ pub(crate) struct Tally {
 }
 
 impl Tally {
-    /// Before the first call.
+    /// The tally of a worker before its first call.
     pub(crate) fn start() -> Tally
         ensures { result ≡ record { calls = 0; fresh = 0; repeated = 0; refused = 0 } }
     {

@@ -62,7 +62,7 @@ pub enum ServeFault {
 }
 
 impl ServeFault {
-    /// The number that the fault is known by, 1 or 2.
+    /// The number that the fault of the workers' start is known by, 1 or 2.
     pub fn number(self) -> u8
         ensures { result ≡ fault_number self }
     {

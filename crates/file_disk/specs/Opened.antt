@@ -8,7 +8,7 @@ use Rattle.sqlite_disk.specs.declared.start.Start.{Ghosts}
 use Rattle.file_disk.specs.File.{calls_of}
 use Rattle.file_disk.specs.declared.system_file.SystemFile.{SystemFile}
 
--- it was settled, under this key, and that is all
+-- the disk's file was settled, under this key, and that is all
 abbrev pub IsFileSettled : ℕ → SystemFile → Type 0
 IsFileSettled key f = calls_of f.file ≡ settled key ∷ []
 

@@ -41,7 +41,7 @@ pub struct OpenFile {
 }
 
 impl OpenFile {
-    /// Takes a file of which nothing was asked.
+    /// Takes an open file of a disk, of which nothing was asked.
     pub(crate) fn of(file: fs::File) -> OpenFile
         ensures { calls_of result ≡ [] }
     {
@@ -51,7 +51,7 @@ impl OpenFile {
         }
     }
 
-    /// Waits until the device has what the file has, and takes it so, under a key.
+    /// Waits until the device has what the disk's file has, and takes it so, under a key.
     pub(crate) fn settle(&mut self, key: u64) -> io::Result<()>
         ensures settled { OnOk result (calls_of self.new ≡ settled key ∷ calls_of self.old) }
         ensures refused { OnErr result (calls_of self.new ≡ calls_of self.old) }
@@ -61,7 +61,7 @@ impl OpenFile {
         Ok(())
     }
 
-    /// How many bytes the file has.
+    /// How many bytes the disk's file has.
     pub(crate) fn length(&mut self) -> io::Result<usize>
         ensures { MatchResult result
             (λ n. calls_of self.new ≡ measured true n ∷ calls_of self.old)
@@ -76,7 +76,7 @@ impl OpenFile {
         answer
     }
 
-    /// Reads from the offset on, one byte or more; where none is there, it fails.
+    /// Reads from a disk's file at the offset, one byte or more; where none is there, it fails.
     pub(crate) fn read(&mut self, at: usize, buf: &mut [u8]) -> io::Result<usize>
         ensures count { IfOk result (λ n. (0 < n) × (n ≤ length buf.old) × (at < 2 ^ 63)) }
         ensures noted { MatchResult result
@@ -95,7 +95,7 @@ impl OpenFile {
         self.read_noted(note, buf)
     }
 
-    /// The same, of bytes that the caller will test against a digest.
+    /// The same read of a disk's file, of bytes that the caller will test against a digest.
     pub(crate) fn read_under(
         &mut self,
         key: u64,
@@ -122,7 +122,7 @@ impl OpenFile {
         self.read_noted(note, buf)
     }
 
-    /// Reads as the note says, and adds it with what came.
+    /// Reads from a disk's file as the note says, and adds it with what came to the record.
     fn read_noted(&mut self, note: Note, buf: &mut [u8]) -> io::Result<usize>
         ensures count { IfOk result
             (λ n. (0 < n) × (n ≤ length buf.old) × (note.at < 2 ^ 63)) }
@@ -142,7 +142,7 @@ impl OpenFile {
         answer
     }
 
-    /// Writes at the offset, one byte or more of these; where none is taken, it fails.
+    /// Writes a disk's file at the offset, one byte or more of these; it fails if none is taken.
     pub(crate) fn write(&mut self, at: usize, bytes: &[u8]) -> io::Result<usize>
         ensures count { IfOk result (λ n. (0 < n) × (n ≤ length bytes.now) × (at < 2 ^ 63)) }
         ensures noted { MatchResult result
@@ -159,7 +159,7 @@ impl OpenFile {
         answer
     }
 
-    /// Makes the file that many bytes long.
+    /// Makes the disk's file that many bytes long.
     pub(crate) fn resize(&mut self, len: usize) -> io::Result<()>
         ensures { calls_of self.new
             ≡ cut len (is_ok result) (as_number (finds_no_room result)) ∷ calls_of self.old }
@@ -169,7 +169,7 @@ impl OpenFile {
         answer
     }
 
-    /// Waits until the device has the file's bytes.
+    /// Waits until the device has the bytes of the disk's file.
     pub(crate) fn sync(&mut self) -> io::Result<()>
         ensures { calls_of self.new
             ≡ flushed (is_ok result) (as_number (finds_no_room result)) ∷ calls_of self.old }
@@ -179,7 +179,7 @@ impl OpenFile {
         answer
     }
 
-    /// Adds a call, that is no tested read, to the record.
+    /// Adds a call on a disk's file, that is no tested read, to the record.
     fn note(&mut self, kind: u64, at: u64, count: u64, done: bool, bytes: &[u8])
         ensures { calls_of self.new ≡ event_of_note (record {
           kind = kind;
@@ -202,7 +202,7 @@ impl OpenFile {
     }
 }
 
-/// 1 where a call found no room, else 0.
+/// 1 where a call on a disk's file found no room, else 0.
 fn no_room_count(answer: &io::Result<()>) -> u64
     ensures { result ≡ as_number (finds_no_room answer.now) }
 {
@@ -216,7 +216,7 @@ fn length_of(file: &fs::File) -> io::Result<usize> {
     Ok(file.metadata()?.len() as usize)
 }
 
-/// Reads from the offset on; that nothing came is an error.
+/// Reads from a disk's file from the offset on; that nothing came is an error.
 fn read_from(file: &fs::File, at: u64, buf: &mut [u8]) -> io::Result<usize>
     ensures { IfOk result (λ n. (0 < n) × (n ≤ length buf.old) × (at < 2 ^ 63)) }
 {
@@ -229,7 +229,7 @@ fn read_from(file: &fs::File, at: u64, buf: &mut [u8]) -> io::Result<usize>
     }
 }
 
-/// Writes at the offset; that nothing was taken is an error.
+/// Writes at the offset of a disk's file; that nothing was taken is an error.
 fn write_to(file: &fs::File, at: u64, bytes: &[u8]) -> io::Result<usize>
     ensures { IfOk result (λ n. (0 < n) × (n ≤ length bytes.now) × (at < 2 ^ 63)) }
 {

@@ -15,7 +15,7 @@ pub struct SystemFile {
 impl SystemFile {
     ghost use Rattle.file_disk.specs.Opened.{IsFileSettled};
 
-    /// Takes an open file, once what was written to it before has reached its device.
+    /// Takes an open file as a disk, once what was written to it before has reached its device.
     pub(crate) fn of_open(file: fs::File, key: u64) -> io::Result<SystemFile>
         ensures { IfOk result (IsFileSettled key) }
     {

@@ -40,7 +40,7 @@ pub fn site_of<R: EventReader>(
     Ok(site)
 }
 
-/// Takes the events of a file into the site. Its bytes are given back before.
+/// Takes the events of a file into the site of a report. Its bytes are given back before.
 fn take_file<R: EventReader>(
     alloc: Global,
     reader: &R,
@@ -53,13 +53,13 @@ fn take_file<R: EventReader>(
     ensures memory { IfErr result (λ why. why ≡ ReportFault.OutOfMemory
         → length bytes ≤ max_input) }
 {
-    let events = reader.read_sorted(alloc, bytes.as_bytes())?;
+    let events = reader.read(alloc, bytes.as_bytes(), true)?;
     drop(bytes);
     take_all(site, events)?;
     Ok(())
 }
 
-/// Moves the events of a batch into the site.
+/// Moves the events of files in a batch into the site of a report.
 pub fn take_all(site: &mut Site, mut batch: Batch) -> Result<(), AllocError>
     ensures { OnOk result (GainsSet batch site.old site.new) }
 {

@@ -6,11 +6,11 @@ use Rattle.inbox.specs.KeyOrder.{same_key}
 use Rattle.inbox.specs.Shown.{is_shown}
 use Rattle.inbox.specs.declared.conflict.Conflict.{Conflict}
 
--- the events of the key of e
+-- the events of a set that have the key of e
 abbrev pub of_key : List EventValue → EventValue → List EventValue
 of_key E e = filter (λ f. same_key f e) E
 
--- whether an event is the shown one of two or more of its key
+-- whether an event is the shown one of two or more of its key, which are in conflict
 abbrev pub is_first_of_several : List EventValue → EventValue → Bool
 is_first_of_several E e = is_shown E e && nat_lt 1 (length (of_key E e))
 

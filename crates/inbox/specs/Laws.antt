@@ -21,7 +21,7 @@ pub record SetLaws : Type 0 where
   pub same : (A B : List EventValue) → AreEvents A → AreEvents B
       → ((e : EventValue) → has key_cmp A e ≡ has key_cmp B e) → set_of A ≡ set_of B
 
--- union has what either has; it is associative, commutative and idempotent
+-- the union of sets of events has what either has; it is associative, commutative and idempotent
 pub record UnionLaws : Type 0 where
   pub members : (E F : List EventValue) (e : EventValue)
       → has key_cmp (union E F) e ≡ (has key_cmp E e || has key_cmp F e)

@@ -88,7 +88,7 @@ impl Inbox {
         }
     }
 
-    /// How many events `put` can take before the next `reserve`.
+    /// How many events `put` can add to the inbox before the next `reserve`.
     pub fn spare(&self) -> u64
         ensures { result ≡ self.now.spare }
     {
@@ -96,7 +96,7 @@ impl Inbox {
         events.min(self.places.room_left()) as u64
     }
 
-    /// Makes room for n more events. Where there is room for them, it takes no memory.
+    /// Makes room in the inbox for n more events. Where it has room for them, it takes no memory.
     pub fn reserve(&mut self, n: u64) -> Result<(), AllocError>
         ensures same { self.new.arrivals ≡ self.old.arrivals }
         ensures room { OnOk result (n ≤ self.new.spare) }
@@ -108,15 +108,15 @@ impl Inbox {
         Ok(())
     }
 
-    /// How many events there are.
+    /// How many events the inbox has.
     pub fn len(&self) -> u64
         ensures { result ≡ length (events self.now) }
     {
         self.places.len() as u64
     }
 
-    /// The event at place i of key order. The time grows with the logarithm of the number of
-    /// events.
+    /// The inbox's event at place i of key order. The time grows with the logarithm of the number
+    /// of events.
     pub fn at(&self, i: u64) -> &Sequenced
         requires { i < length (events self.now) }
         ensures { slice_get (events self.now) i ≡ Some result.now }
@@ -124,8 +124,8 @@ impl Inbox {
         event_at(&self.arrivals, &self.places, i as usize)
     }
 
-    /// The place of an event in key order: `Ok` where it stands, `Err` where it would go. The time
-    /// grows with the logarithm of the number of events.
+    /// The place of an event in the inbox's key order: `Ok` where it stands, `Err` where it would
+    /// go. The time grows with the logarithm of the number of events.
     pub fn place_of(&self, event: &Sequenced) -> Result<u64, u64>
         ensures there { IfOk result (λ i. slice_get (events self.now) i ≡ Some event.now) }
         ensures gap { IfErr result (λ i. IsGapFor key_cmp (events self.now) event.now i) }
@@ -139,9 +139,9 @@ impl Inbox {
         }
     }
 
-    /// Adds an event, for which there must be room, unless it is there. It takes no memory. The
-    /// time is that of `place_of` and of a move of mostly at most 2,048 positions; about one new
-    /// event in 2,048 goes over all positions.
+    /// Adds an event to the inbox, for which there must be room, unless it is there. It takes no
+    /// memory. The time is that of `place_of` and of a move of mostly at most 2,048 positions;
+    /// about one new event in 2,048 goes over all positions.
     pub fn put(&mut self, event: Sequenced) -> Taken
         requires { 0 < self.old.spare }
         ensures arrivals { HaveCome (event ∷ []) self.old self.new }
@@ -161,9 +161,9 @@ impl Inbox {
         }
     }
 
-    /// Adds an event, if there is memory for it, unless it is there; that is found without memory.
-    /// Memory is wanted only where there is no room that was made before. The time is that of
-    /// `put`, and where the inbox grows, a copy of all positions.
+    /// Adds an event to the inbox, if there is memory for it, unless it is there; that is found
+    /// without memory. Memory is wanted only where there is no room that was made before. The time
+    /// is that of `put`, and where the inbox grows, a copy of all positions.
     pub fn take(&mut self, event: Sequenced) -> Result<Taken, Back>
         ensures arrivals { OnOk result (HaveCome (event ∷ []) self.old self.new) }
         ensures set { OnOk result (Adds (event ∷ []) self.old self.new) }
@@ -188,7 +188,7 @@ impl Inbox {
         Ok(self.put(event))
     }
 
-    /// How many events came, each counted once.
+    /// How many events came to the inbox, each counted once.
     pub fn arrived(&self) -> u64
         ensures count { result ≡ length self.now.arrivals }
         ensures events { AreEvents self.now.arrivals }
@@ -196,7 +196,7 @@ impl Inbox {
         self.arrivals.len() as u64
     }
 
-    /// The event that came as the i-th, from 0.
+    /// The event that came to the inbox as the i-th, from 0.
     pub fn arrived_at(&self, i: u64) -> &Sequenced
         requires { i < length self.now.arrivals }
         ensures { slice_get self.now.arrivals i ≡ Some result.now }
@@ -204,8 +204,8 @@ impl Inbox {
         &self.arrivals[i as usize]
     }
 
-    /// The place among what came, from 0, of the event at place i of key order: `arrived_at` of it
-    /// is that event. The time grows with the logarithm of the number of events.
+    /// The place among what came to the inbox, from 0, of the event at place i of key order:
+    /// `arrived_at` of it is that event. The time grows with the logarithm of the number of events.
     pub fn came_at(&self, i: u64) -> u64
         requires { i < length (events self.now) }
         ensures { slice_get self.now.arrivals result ≡ slice_get (events self.now) i }
@@ -213,8 +213,8 @@ impl Inbox {
         position_at(&self.arrivals, &self.places, i as usize) as u64
     }
 
-    /// Whether the event at place i of key order is shown: whether it has the least text of its
-    /// source and id. The time grows with the logarithm of the number of events.
+    /// Whether the inbox's event at place i of key order is shown: whether it has the least text of
+    /// its source and id. The time grows with the logarithm of the number of events.
     pub fn is_shown(&self, i: u64) -> bool
         requires { i < length (events self.now) }
         ensures { (e : EventValue) → slice_get (events self.now) i ≡ Some e
@@ -226,8 +226,8 @@ impl Inbox {
         !have_same_key(self.at(i - 1), self.at(i))
     }
 
-    /// The shown event of a source and an id, where there is one. The time grows with the logarithm
-    /// of the number of events.
+    /// The inbox's shown event of a source and an id, where there is one. The time grows with the
+    /// logarithm of the number of events.
     pub fn shown_of(&self, source: &str, id: &str) -> Option<&Sequenced>
         ensures some { IfSome result (λ e. IsShownOf (events self.now) source.now id.now e.now) }
         ensures none { IfNone result (NoneHas (events self.now) source.now id.now) }
@@ -235,7 +235,7 @@ impl Inbox {
         first_of(&self.arrivals, &self.places, source, id)
     }
 
-    /// Copies of the shown events, in key order. Memory is wanted only where there are events.
+    /// Copies of the inbox's shown events, in key order. Memory is wanted only where it has events.
     pub fn shown(&self) -> Result<Batch, AllocError>
         ensures ok { IfOk result (λ batch. batch ≡ shown (events self.now)) }
         ensures err { OnErr result (0 < length (events self.now)) }
@@ -249,7 +249,7 @@ impl Inbox {
         Ok(batch)
     }
 
-    /// Copies of all events, in key order. Memory is wanted only where there are events.
+    /// Copies of all events of the inbox, in key order. Memory is wanted only where it has events.
     pub fn events(&self) -> Result<Batch, AllocError>
         ensures ok { IfOk result (λ batch. batch ≡ events self.now) }
         ensures err { OnErr result (0 < length (events self.now)) }
@@ -261,8 +261,8 @@ impl Inbox {
         Ok(batch)
     }
 
-    /// How many events have the key of the event at place i, which is the first of them, and with
-    /// it the places from i on. Goes over them.
+    /// How many events of the inbox have the key of the event at place i, which is the first of
+    /// them, and with it the places from i on. Goes over them.
     pub fn key_len(&self, i: u64) -> u64
         requires in_range { i < length (events self.now) }
         requires first { (e : EventValue) → slice_get (events self.now) i ≡ Some e
@@ -280,7 +280,7 @@ impl Inbox {
         rest
     }
 
-    /// Copies of the n events from place i on.
+    /// Copies of the inbox's n events from place i of key order on.
     fn copies(&self, i: u64, n: u64) -> Result<Batch, AllocError>
         requires fits { i + n ≤ length (events self.now) }
         ensures { IfOk result (λ batch. batch ≡ take n (drop i (events self.now))) }
@@ -294,7 +294,7 @@ impl Inbox {
         Ok(batch)
     }
 
-    /// The conflict of the n events from place i on, which are those of a key.
+    /// The conflict of the inbox's n events from place i on, which are those of a key.
     fn conflict_at(&self, i: u64, n: u64) -> Result<Conflict, AllocError>
         requires in_range { i < length (events self.now) }
         requires fits { i + n ≤ length (events self.now) }
@@ -311,7 +311,7 @@ impl Inbox {
         Ok(Conflict { source, id, events })
     }
 
-    /// Adds the conflict of the key of the event at place i, if that is the first of several.
+    /// Adds the conflict of the key of the inbox's event at place i, if it is the first of several.
     fn add_conflict(&self, conflicts: &mut Conflicts, i: u64) -> Result<(), AllocError>
         requires in_range { i < length (events self.now) }
         ensures ok { OnOk result ((e : EventValue) → slice_get (events self.now) i ≡ Some e
@@ -344,7 +344,7 @@ impl Inbox {
         Ok(conflicts)
     }
 
-    /// Adds a copy of an event, unless it is there.
+    /// Adds a copy of an event to the inbox, unless it is there.
     fn take_copy(&mut self, event: &Sequenced) -> Result<(), AllocError>
         ensures ok { OnOk result (HaveCome (event.now ∷ []) self.old self.new) }
         ensures same { OnErr result (self.new.arrivals ≡ self.old.arrivals) }
@@ -359,9 +359,9 @@ impl Inbox {
         }
     }
 
-    /// Takes copies of the other's events, in key order; those that are there are not copied, and
-    /// need no memory. After a refusal those before it stay. The time is that of `take` for each
-    /// event.
+    /// Takes copies of the other inbox's events, in key order; those that are there are not copied,
+    /// and need no memory. After a refusal those before it stay. The time is that of `take` for
+    /// each event.
     pub fn merge(&mut self, other: &Inbox) -> Result<Counts, Short>
         ensures arrivals { OnOk result (HaveCome (events other.now) self.old self.new) }
         ensures set { OnOk result (Adds (events other.now) self.old self.new) }

@@ -12,14 +12,14 @@ pub fn sets_are_members()
     text_tells_events();
 }
 
-/// Union has what either set has; it is associative, commutative and idempotent.
+/// The union of sets of events has what either has; it is associative, commutative, idempotent.
 pub fn unions_are_sets()
     ensures { UnionLaws }
 {
     text_tells_events();
 }
 
-/// The set of what came is the union of the sets of its parts, whatever came again.
+/// The set of the events that came is the union of the sets of its parts, whatever came again.
 pub fn arrivals_unite()
     ensures { ArrivalsUnite }
 {

@@ -52,7 +52,7 @@ impl Model for Places {
         (vec_capacity p.late) };
 }
 
-/// Appends the settled positions from a place on that stand before a late one, and the late one.
+/// Appends an inbox's settled positions from a place on that stand before a late one, and that one.
 fn push_to(settled: &[usize], from: usize, late: Late, all: &mut Vec<usize>)
     requires low { from ≤ late.before }
     requires high { late.before ≤ length settled.now }
@@ -65,7 +65,7 @@ fn push_to(settled: &[usize], from: usize, late: Late, all: &mut Vec<usize>)
     let _ = all.push(late.position);
 }
 
-/// Makes a list of the settled positions with the late ones among them.
+/// Makes a list of an inbox's settled positions with the late ones among them.
 fn weave(settled: &[usize], late: &[Late], all: &mut Vec<usize>)
     requires room { length settled.now + length late.now ≤ vec_capacity all.old }
     requires empty { vec_len all.old ≡ 0 }
@@ -83,7 +83,7 @@ fn weave(settled: &[usize], late: &[Late], all: &mut Vec<usize>)
     let _ = all.extend_from_slice(&settled[from..]);
 }
 
-/// Makes room for the late positions among so many, of which 2,048 are enough.
+/// Makes room for the late positions among so many of an inbox, of which 2,048 are enough.
 fn make_room(late: &mut Vec<Late>, wanted: usize) -> Result<(), AllocError>
     ensures items { late.new.items ≡ late.old.items }
     ensures len { vec_len late.new ≡ vec_len late.old }
@@ -97,7 +97,7 @@ fn make_room(late: &mut Vec<Late>, wanted: usize) -> Result<(), AllocError>
     Ok(())
 }
 
-/// How many late positions are among the first i of all.
+/// How many late positions are among the first i of all in an inbox's order.
 fn late_among(late: &[Late], i: usize) -> usize
     ensures within { result ≤ length late.now }
     ensures before { (k : ℕ) → k + 1 ≡ result → IsAmong late.now k i }
@@ -117,7 +117,7 @@ fn late_among(late: &[Late], i: usize) -> usize
     low
 }
 
-/// The late position that stands at place i, behind so many late ones, if one stands there.
+/// The late position at place i of an inbox's order, behind so many late ones, if one stands there.
 fn late_position(late: &[Late], among: usize, i: usize) -> Option<usize>
     requires few { among ≤ i }
     ensures some { IfSome result (λ p. IsLateAt late.now among i p) }
@@ -135,7 +135,7 @@ fn late_position(late: &[Late], among: usize, i: usize) -> Option<usize>
 }
 
 impl Places {
-    /// No positions. It takes no memory.
+    /// The order of an inbox without positions. It takes no memory.
     pub(crate) fn empty(alloc: Global) -> Places
         ensures settled { result.settled ≡ [] }
         ensures late { result.late ≡ [] }
@@ -147,15 +147,15 @@ impl Places {
         }
     }
 
-    /// How many positions there are.
+    /// How many positions the inbox's order has.
     pub(crate) fn len(&self) -> usize
         ensures { result ≡ length (order self.now) }
     {
         self.settled.len() + self.late.len()
     }
 
-    /// The position at place i of the order. The time grows with the logarithm of the number of
-    /// late positions.
+    /// The position at place i of the inbox's order. The time grows with the logarithm of the
+    /// number of late positions.
     pub(crate) fn at(&self, i: usize) -> usize
         requires { i < length (order self.now) }
         ensures { slice_get (order self.now) i ≡ Some result }
@@ -167,14 +167,14 @@ impl Places {
         }
     }
 
-    /// How many positions are settled.
+    /// How many positions of the inbox's order are settled.
     pub(crate) fn settled_len(&self) -> usize
         ensures { result ≡ length self.now.settled }
     {
         self.settled.len()
     }
 
-    /// The settled position at a place among the settled ones.
+    /// The settled position at a place among the settled ones of the inbox's order.
     pub(crate) fn settled_at(&self, i: usize) -> usize
         requires { i < length self.now.settled }
         ensures { slice_get self.now.settled i ≡ Some result }
@@ -182,7 +182,7 @@ impl Places {
         self.settled[i]
     }
 
-    /// How many positions are late.
+    /// How many positions of the inbox's order are late.
     pub(crate) fn late_len(&self) -> usize
         ensures len { result ≡ length self.now.late }
         ensures rise { Rise 0 (length self.now.settled) self.now.late }
@@ -190,7 +190,7 @@ impl Places {
         self.late.len()
     }
 
-    /// The late position at a place among the late ones.
+    /// The late position at a place among the late ones of the inbox's order.
     pub(crate) fn late_at(&self, i: usize) -> Late
         requires { i < length self.now.late }
         ensures { slice_get self.now.late i ≡ Some result }
@@ -198,14 +198,14 @@ impl Places {
         self.late[i]
     }
 
-    /// For how many more positions there is room.
+    /// For how many more positions there is room in the inbox's order.
     pub(crate) fn room_left(&self) -> usize
         ensures { result ≡ self.now.room }
     {
         self.settled.capacity().min(self.other.capacity()) - (self.settled.len() + self.late.len())
     }
 
-    /// Makes room for n more positions. The room never falls, and the second buffer is emptied.
+    /// Makes room for n more of an inbox's positions. It never falls; the second buffer is emptied.
     pub(crate) fn reserve(&mut self, n: usize) -> Result<(), AllocError>
         ensures settled { self.new.settled ≡ self.old.settled }
         ensures late { self.new.late ≡ self.old.late }
@@ -226,7 +226,7 @@ impl Places {
         Ok(())
     }
 
-    /// Settles the late positions.
+    /// Settles the late positions of the inbox's order.
     fn settle(&mut self)
         requires { 0 < self.old.room }
         ensures settled { self.new.settled ≡ order self.old }
@@ -239,7 +239,7 @@ impl Places {
         self.late.clear();
     }
 
-    /// Puts a position behind so many settled ones and so many late ones.
+    /// Puts an inbox's position behind so many settled ones and so many late ones.
     pub(crate) fn insert(&mut self, before: usize, late: usize, position: usize)
         requires room { 0 < self.old.room }
         requires gap { StandsAt self.old before late }

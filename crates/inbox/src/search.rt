@@ -51,7 +51,7 @@ fn compare(event: &Sequenced, source: &str, id: &str, text: &str) -> Ordering
     }
 }
 
-/// Whether two events have one source and id.
+/// Whether two events have one key, which is source and id.
 pub(crate) fn have_same_key(event: &Sequenced, other: &Sequenced) -> bool
     ensures { result ≡ same_key event.now other.now }
 {
@@ -65,7 +65,7 @@ pub(crate) fn have_same_key(event: &Sequenced, other: &Sequenced) -> bool
     }
 }
 
-/// The event at a position among the arrivals.
+/// The event at a position among the inbox's arrivals.
 fn event_in(arrivals: &[Sequenced], position: usize) -> &Sequenced
     requires { position < length arrivals.now }
     ensures { slice_get arrivals.now position ≡ Some result.now }
@@ -73,7 +73,7 @@ fn event_in(arrivals: &[Sequenced], position: usize) -> &Sequenced
     &arrivals[position]
 }
 
-/// The settled event at a place among the settled ones.
+/// The inbox's settled event at a place among the settled ones.
 fn settled_event<'a>(arrivals: &'a [Sequenced], places: &Places, i: usize) -> &'a Sequenced
     requires reads { ReadsInOrder key_cmp arrivals.now (order places.now) }
     requires in_range { i < length places.now.settled }
@@ -82,7 +82,7 @@ fn settled_event<'a>(arrivals: &'a [Sequenced], places: &Places, i: usize) -> &'
     event_in(arrivals, places.settled_at(i))
 }
 
-/// The event of a late position.
+/// The inbox's event of a late position.
 fn late_event<'a>(arrivals: &'a [Sequenced], places: &Places, late: Late) -> &'a Sequenced
     requires reads { ReadsInOrder key_cmp arrivals.now (order places.now) }
     requires is_late { (i : ℕ) × (slice_get places.now.late i ≡ Some late) }
@@ -91,7 +91,7 @@ fn late_event<'a>(arrivals: &'a [Sequenced], places: &Places, late: Late) -> &'a
     event_in(arrivals, late.position)
 }
 
-/// The event at place i of key order.
+/// The inbox's event at place i of key order.
 pub(crate) fn event_at<'a>(arrivals: &'a [Sequenced], places: &Places, i: usize) -> &'a Sequenced
     requires reads { ReadsInOrder key_cmp arrivals.now (order places.now) }
     requires in_range { i < length (order places.now) }
@@ -100,7 +100,7 @@ pub(crate) fn event_at<'a>(arrivals: &'a [Sequenced], places: &Places, i: usize)
     event_in(arrivals, places.at(i))
 }
 
-/// The position among the arrivals of the event at place i of key order.
+/// The position among the inbox's arrivals of the event at place i of key order.
 pub(crate) fn position_at(arrivals: &[Sequenced], places: &Places, i: usize) -> usize
     requires reads { ReadsInOrder key_cmp arrivals.now (order places.now) }
     requires in_range { i < length (order places.now) }
@@ -109,8 +109,8 @@ pub(crate) fn position_at(arrivals: &[Sequenced], places: &Places, i: usize) -> 
     places.at(i)
 }
 
-/// Where a search among places up to `len` looks next: at the last place first, since what comes in
-/// key order goes behind it, and then in the middle.
+/// Where a search in the inbox among places up to `len` looks next: at the last place first, since
+/// what comes in key order goes behind it, and then in the middle.
 fn next_probe(low: usize, high: usize, len: usize) -> usize
     requires { low < high }
     ensures low { low ≤ result }
@@ -123,7 +123,7 @@ fn next_probe(low: usize, high: usize, len: usize) -> usize
     }
 }
 
-/// How many settled events are lesser.
+/// How many settled events of the inbox are lesser in key order.
 fn settled_before(
     arrivals: &[Sequenced],
     places: &Places,
@@ -147,7 +147,7 @@ fn settled_before(
     low
 }
 
-/// How many late events stand before a place behind so many settled ones.
+/// How many of the inbox's late events stand before a place behind so many settled ones.
 fn late_before(
     arrivals: &[Sequenced],
     places: &Places,
@@ -180,7 +180,7 @@ fn late_before(
     low
 }
 
-/// The first place of key order at which no lesser event stands.
+/// The first place of the inbox's key order at which no lesser event stands.
 pub(crate) fn lower_bound(
     arrivals: &[Sequenced],
     places: &Places,
@@ -198,7 +198,7 @@ pub(crate) fn lower_bound(
     Gap { before, late }
 }
 
-/// The place in key order where an event stands, or where it goes.
+/// The place in the inbox's key order where an event stands, or where it goes.
 pub(crate) fn find(arrivals: &[Sequenced], places: &Places, event: &Sequenced) -> Result<usize, Gap>
     requires reads { ReadsInOrder key_cmp arrivals.now (order places.now) }
     ensures there { IfOk result (λ i. slice_get (set_of arrivals.now) i ≡ Some event.now) }
@@ -222,15 +222,15 @@ pub(crate) fn find(arrivals: &[Sequenced], places: &Places, event: &Sequenced) -
     Err(gap)
 }
 
-/// Whether an event has a source and an id.
+/// Whether an event of the inbox has a source and an id.
 fn is_of(event: &Sequenced, source: &str, id: &str) -> bool
     ensures { result ≡ has_key source.now id.now event.now }
 {
     event.event().source() == source && event.event().id() == id
 }
 
-/// The first event of a source and an id in key order, where there is one: the empty text, which is
-/// sought, is the least.
+/// The inbox's first event of a source and an id in key order, where there is one: the empty text,
+/// which is sought, is the least.
 pub(crate) fn first_of<'a>(
     arrivals: &'a [Sequenced],
     places: &Places,

@@ -5,7 +5,7 @@ use Rattle.database_layout.specs.Layout.{GainsInbox2, HasInbox, HasService, sche
 use Rattle.database_layout.specs.Making.{upgraded}
 use Rattle.database_layout.specs.declared.layout.Layout.{Layout}
 
--- the three tables of a service have the rows that they had
+-- beside the inbox the three tables of a service have the rows that they had
 pub record HasSameService (before after : Layout) (old new : Database) : Type 0 where
   pub service : new.trees (service_tree after) ≡ old.trees (service_tree before)
   pub orders : new.trees (suc (service_tree after)) ≡ old.trees (suc (service_tree before))
@@ -26,7 +26,7 @@ pub record GainsInbox (old new : Database) : Type 0 where
   pub is : new.schema ≡ schema_in after
   pub service : HasService before → HasSameService before after old new
 
--- it was made in the place of one of version 1
+-- the inbox of version 2 was made in the place of one of version 1
 pub record UpgradesTables (old new : Database) : Type 0 where
   pub before : Layout
   pub has : HasInbox before

@@ -10,7 +10,7 @@ use Rattle.inbox_table.specs.Rows.{IsInbox, IsOldInbox}
 use Rattle.inbox_table.specs.declared.fault.TableFault.{TableFault}
 use Rattle.inbox_table.specs.declared.fault.TableFault.TheVariants.{Foreign}
 
--- what an opening does, while the disk gives back what was written; the table has these events
+-- an opening of an inbox's table with these events, while the disk gives back what was written
 pub record Opens (tells : ℕ → ℕ → Type 0) (old new : State) (events : List EventValue)
     : Type 0 where
   -- where a table of either name was there, it was taken over with them
@@ -26,7 +26,7 @@ pub record Opens (tells : ℕ → ℕ → Type 0) (old new : State) (events : Li
   -- a crash leaves just that
   pub settled : IsSettled new
 
--- an opening is refused for this fault
+-- an opening of the inbox's table is refused for this fault
 pub record RejectsOpening (old new : State) (fault : TableFault) : Type 0 where
   -- where a table of either name was there, as a taking over is
   pub rejects : has_inbox old.now.schema ≡ true → Rejects old new fault
@@ -35,12 +35,12 @@ pub record RejectsOpening (old new : State) (fault : TableFault) : Type 0 where
   -- the database is as it was
   pub same : IsAsItWas old new
 
--- these are the trees of a database in which the table was made where none was there, or one of
--- version 1 gave way to it
+-- these are the trees of a database in which the inbox's table was made where none was there, or
+-- one of version 1 gave way to it
 abbrev pub MayOpen : Database → Trees → Type 0
 MayOpen old trees = ((has_inbox old.schema ≡ false) × MayMake old trees)
     ⊎ ((has_inbox old.schema ≡ true) × MayUpgrade old trees)
 
--- what a crash may leave of an opening, done or refused
+-- what a crash may leave of an opening of the inbox's table, done or refused
 abbrev pub LeavesOpening : State → State → Type 0
 LeavesOpening old new = Survives old new (MayOpen old.now)

@@ -4,7 +4,7 @@ ghost use Rattle.std.specs.Prelude.{◌≡◌, ◌⊎◌, true, false, Err, List
 ghost use Rattle.sqlite.specs.Held.{state};
 ghost use Rattle.sqlite.specs.State.{HasCleanDisk, Survives};
 ghost use Rattle.attributes.specs.Event.{EventValue};
-ghost use Rattle.database_layout.specs.Layout.{HasInbox2, HasInboxForm, has_inbox, schema_in};
+ghost use Rattle.database_layout.specs.Layout.{HasInboxForm, has_inbox};
 ghost use Rattle.inbox_table.specs.Calls.{IsTold, LeavesUpgrade, Rejects, has_both};
 ghost use Rattle.inbox_table.specs.Rows.{IsInbox, IsOldInbox};
 ghost use Rattle.inbox_table.specs.steps.Reads.{IsTableReading, TellsRows};
@@ -24,8 +24,8 @@ use sqlite::{Alter, Connection};
 use sqlite_schema::schema::Schema;
 use std::alloc::Global;
 
-/// How many rows a table of version 2 has, and the wanted of their events. `Store` where the
-/// database has none, or other tables than ours.
+/// How many rows an inbox's table of version 2 has, and the wanted of their events. `Store` where
+/// the database has none, or other tables than ours.
 #[tactic(auto, using(crate::proofs::SameLemmas::is_same))]
 pub(crate) fn listed_in<S: Alter, W: Wanted>(
     alloc: Global,
@@ -51,15 +51,15 @@ pub(crate) fn listed_in<S: Alter, W: Wanted>(
     read(alloc, conn, Version::Two, wanted)
 }
 
-/// Whether both versions are there, in whatever form.
+/// Whether both versions of the inbox's table are there, in whatever form.
 fn has_both(schema: &Schema) -> bool
     ensures { result ≡ has_both schema.now }
 {
     schema.table_named(b"inbox").is_some() && schema.table_named(b"inbox2").is_some()
 }
 
-/// Why a database that has other tables than ours is no table: `Store` where one of our form lies
-/// beside them.
+/// Why a database that has other tables than ours is no inbox's table: `Store` where one of our
+/// form lies beside them.
 pub(crate) fn stranger(schema: &Schema) -> TableFault
     ensures both { has_both schema.now ≡ true → result ≡ Foreign }
     ensures foreign { result ≡ Foreign
@@ -72,30 +72,9 @@ pub(crate) fn stranger(schema: &Schema) -> TableFault
     }
 }
 
-/// How many rows the table of version 2 has that is there, and their events where these are to be
-/// kept. Nothing is written.
-fn taken_in<S: Alter>(
-    alloc: Global,
-    conn: &mut Connection<S>,
-    layout: Layout,
-    keeps: bool,
-) -> Result<Found, TableFault>
-    requires has { HasInbox2 layout }
-    requires schema { (state S.Store conn.old).now.schema ≡ schema_in layout }
-    ensures adopts { HasCleanDisk (state S.Store conn.new) → IfOk result (λ f. HasAdopted keeps
-        (state S.Store conn.old) (state S.Store conn.new) f.rows f.events) }
-    ensures rejects { IfErr result (Rejects (state S.Store conn.old) (state S.Store conn.new)) }
-    ensures crash { Survives (state S.Store conn.old) (state S.Store conn.new) (λ _. ⊥) }
-{
-    match read(alloc, conn, Version::Two, &Each { keeps }) {
-        Ok(found) => Ok(found),
-        Err(fault) => Err(fault),
-    }
-}
-
-/// How many rows the table has, and their events where these are to be kept, where there is one
-/// whose rows the calls can have left so. One of version 1 gives way to one of version 2; the watch
-/// is told after each thousand how many of its events are in that.
+/// How many rows the inbox's table has, and their events where these are to be kept, where there is
+/// one whose rows the calls can have left so. One of version 1 gives way to one of version 2; the
+/// watch is told after each thousand how many of its events are in that.
 pub(crate) fn found_in<S: Alter, W: Watch>(
     alloc: Global,
     conn: &mut Connection<S>,
@@ -120,7 +99,10 @@ pub(crate) fn found_in<S: Alter, W: Watch>(
         return Err(stranger(conn.schema()));
     };
     if layout.has_inbox2() {
-        return taken_in(alloc, conn, layout, keeps);
+        return match read(alloc, conn, Version::Two, &Each { keeps }) {
+            Ok(found) => Ok(found),
+            Err(fault) => Err(fault),
+        };
     }
     if layout.has_inbox() {
         return upgrade(alloc, conn, layout, watch);

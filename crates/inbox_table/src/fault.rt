@@ -23,7 +23,7 @@ pub enum TableFault {
 }
 
 impl TableFault {
-    /// The number that the refusal is known by, 1 to 3.
+    /// The number that the refusal of an inbox's table is known by, 1 to 3.
     pub fn number(self) -> u8
         ensures { result ≡ fault_number self }
     {
@@ -38,7 +38,7 @@ impl TableFault {
 impl From<AllocError> for TableFault {
     ghost from_gives = { λ _ f. f ≡ OutOfMemory };
 
-    /// Want of memory.
+    /// Want of memory in a call of an inbox's table.
     fn from(_refused: AllocError) -> TableFault {
         TableFault::OutOfMemory
     }
@@ -47,7 +47,7 @@ impl From<AllocError> for TableFault {
 impl<T: Drop> From<AllocFailed<T>> for TableFault {
     ghost from_gives = { λ _ f. f ≡ OutOfMemory };
 
-    /// Want of memory, whatever was to be kept.
+    /// Want of memory in a call of an inbox's table, whatever was to be kept.
     fn from(_refused: AllocFailed<T>) -> TableFault {
         TableFault::OutOfMemory
     }
@@ -56,7 +56,7 @@ impl<T: Drop> From<AllocFailed<T>> for TableFault {
 impl From<Error> for TableFault {
     ghost from_gives = { λ _ f. IsOfStore f };
 
-    /// Want of memory, or another refusal of the store.
+    /// Want of memory, or another refusal of the store, in a call of an inbox's table.
     fn from(error: Error) -> TableFault {
         match error {
             Error::SqliteFailure(ErrorCode::OutOfMemory) => TableFault::OutOfMemory,

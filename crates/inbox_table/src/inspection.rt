@@ -28,7 +28,7 @@ pub struct Inspected {
     pub events: Batch,
 }
 
-/// The version of the table that a database has beside nothing but tables of ours.
+/// The version of the inbox's table that a database has beside nothing but tables of ours.
 fn version_in(schema: &Schema) -> Option<Version>
     ensures { IfSome result (λ v. HasVersion v schema.now) }
 {
@@ -42,7 +42,7 @@ fn version_in(schema: &Schema) -> Option<Version>
     None
 }
 
-/// The version and the events of the table that is in a database. It is tested as
+/// The version and the events of the inbox's table that is in a database. It is tested as
 /// [`crate::Table::adopt_and_load`] tests it, and refused for the same faults, but nothing is
 /// written: one of version 1 stays what it is. Time and memory in proportion to the events.
 pub fn inspect<S: Alter>(alloc: Global, conn: &mut Connection<S>) -> Result<Inspected, TableFault>

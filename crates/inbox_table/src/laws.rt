@@ -14,15 +14,15 @@ pub fn stops_leave_a_list()
     trees_tell_tables();
 }
 
-/// So may a `create`. The file that is opened again is as it was, or has the table without events,
-/// and so [`crate::Table::open`] finds it.
+/// So may a `create` of the inbox's table. The file that is opened again is as it was, or has it
+/// without events, and so [`crate::Table::open`] finds it.
 pub fn stops_leave_no_events()
     ensures { StopsLeaveNoEvents }
 {
     trees_tell_tables();
 }
 
-/// So may the taking over of a table of version 1. The file that is opened again is as it was, or
+/// So may the taking over of an inbox of version 1. The file that is opened again is as it was, or
 /// has in version 2 the list that it had in version 1: never both versions, and never neither.
 pub fn stops_leave_one_version()
     ensures { StopsLeaveOneVersion }

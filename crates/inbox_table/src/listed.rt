@@ -9,11 +9,11 @@ use attributes::{Batch, Sequenced};
 pub trait Listed {
     ghost listed: { Self → List EventValue };
 
-    /// How many there are.
+    /// How many events there are to be put into the inbox's table.
     fn count(&self) -> u64
         ensures { result ≡ length (listed self.now) };
 
-    /// The event at a place, from 0.
+    /// The event at a place, from 0, of those to be put into the inbox's table.
     fn lent(&self, i: u64) -> &Sequenced
         requires { i < length (listed self.now) }
         ensures { slice_get (listed self.now) i ≡ Some result.now };

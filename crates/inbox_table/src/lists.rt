@@ -15,8 +15,8 @@ use attributes::{Batch, List};
 use sqlite::{Alter, Connection, Transaction};
 use std::alloc::Global;
 
-/// How many events the lists have, one behind the other; the greatest number where that is too
-/// great.
+/// How many events the lists for the inbox's table have, one behind the other; the greatest number
+/// where that is too great.
 pub(crate) fn length_of(lists: &List<Batch>) -> u64
     ensures { result < u64.MAX → result ≡ length (joined lists.now) }
 {
@@ -27,7 +27,7 @@ pub(crate) fn length_of(lists: &List<Batch>) -> u64
     length
 }
 
-/// The sum of the numbers.
+/// The sum of the numbers of new events, one of each list.
 pub(crate) fn total(numbers: &List<u64>) -> u64
     requires { sum numbers.now < 2 ^ 64 }
     ensures { result ≡ sum numbers.now }
@@ -35,8 +35,8 @@ pub(crate) fn total(numbers: &List<u64>) -> u64
     numbers.as_slice().iter().sum()
 }
 
-/// Puts the events of these lists in behind so many rows, one list after the other, each event
-/// unless it is there by then.
+/// Puts the events of these lists into the inbox's table behind so many rows, one list after the
+/// other, each event unless it is there by then.
 fn put_lists<S: Alter>(
     alloc: Global,
     tx: &mut Transaction<'_, S>,
@@ -67,8 +67,8 @@ fn put_lists<S: Alter>(
     Ok(each)
 }
 
-/// Takes the events of these lists in one transaction into a table with so many rows, one list
-/// after the other, and answers how many of each were not there by then.
+/// Takes these lists' events in one transaction into an inbox's table with so many rows, one list
+/// after the other; answers how many of each were not there by then.
 pub(crate) fn keep_lists<S: Alter>(
     alloc: Global,
     conn: &mut Connection<S>,

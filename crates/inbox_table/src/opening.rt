@@ -60,8 +60,8 @@ impl<S: Alter> Table<S> {
         }
     }
 
-    /// As [`Table::open_and_load`], without giving the events; those of a table of version 2 aren't
-    /// kept in memory.
+    /// As [`Table::open_and_load`] of the inbox, without giving the events; those of a table of
+    /// version 2 aren't kept in memory.
     #[tactic(auto, using(crate::proofs::TableLemmas::adopted_stands))]
     pub fn open<W: Watch>(
         alloc: Global,

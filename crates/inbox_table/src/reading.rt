@@ -28,8 +28,8 @@ pub(crate) struct Found {
     pub(crate) events: Batch,
 }
 
-/// The event of the next row, where it is that of one at this place, else `Foreign`; none behind
-/// the last row.
+/// The event of the next row of the inbox's table, where it is that of one at this place, else
+/// `Foreign`; none behind the last row.
 fn next_event<S: Alter>(
     alloc: Global,
     rows: &mut Rows<'_, S>,
@@ -67,7 +67,7 @@ fn next_event<S: Alter>(
     }
 }
 
-/// Puts the event behind the others, where it is wanted.
+/// Puts an event read from the inbox's table behind the others, where it is wanted.
 fn keep_if<W: Wanted>(events: &mut Batch, event: Sequenced, wanted: &W) -> Result<(), TableFault>
     ensures kept { OnOk result (events.new
         ≡ events.old ++ filter (W.wanted wanted.now) (event ∷ [])) }
@@ -79,8 +79,8 @@ fn keep_if<W: Wanted>(events: &mut Batch, event: Sequenced, wanted: &W) -> Resul
     Ok(())
 }
 
-/// Reads the rows to their end, each once, and lets each go before the next is read, and its event
-/// too where it isn't wanted. `Foreign` at the first row that isn't that of an event at its place.
+/// Reads the inbox's rows to the end, each once, and lets each go before the next is read, and its
+/// event too if unwanted. `Foreign` at the first row that isn't that of an event at its place.
 fn read_rows<S: Alter, W: Wanted>(
     alloc: Global,
     rows: &mut Rows<'_, S>,
@@ -122,7 +122,7 @@ fn read_rows<S: Alter, W: Wanted>(
     Err(TableFault::Store)
 }
 
-/// The question for all rows, by place.
+/// The question for all rows of the inbox's table, by place.
 fn select_of(version: Version) -> &'static str
     ensures { result.now ≡ select_text version }
 {
@@ -134,8 +134,8 @@ fn select_of(version: Version) -> &'static str
     }
 }
 
-/// How many rows there are, and the wanted of their events in the order of their places. Each row
-/// is read once. `Foreign` where a row isn't that of an event at its place.
+/// How many rows the inbox's table has, and the wanted of their events in the order of their
+/// places. Each row is read once. `Foreign` if a row isn't that of an event at its place.
 pub(crate) fn read<S: Alter, W: Wanted>(
     alloc: Global,
     conn: &mut Connection<S>,

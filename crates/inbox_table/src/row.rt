@@ -20,7 +20,7 @@ use sqlite::Row;
 use sqlite::types::ValueRef;
 use std::alloc::Global;
 
-/// Whether the row has this number there.
+/// Whether a row of the inbox's table has this number there.
 fn is_whole(row: &Row, at: usize, number: u64) -> bool
     ensures { IsTrue result ↔ ((at < length row.now) × (column row.now at ≡ Int (pos number))) }
 {
@@ -30,7 +30,7 @@ fn is_whole(row: &Row, at: usize, number: u64) -> bool
     }
 }
 
-/// Whether the row has this text there.
+/// Whether a row of the inbox's table has this text there.
 fn is_text(row: &Row, at: usize, text: &str) -> bool
     ensures { IsTrue result ↔ ((at < length row.now) × (column row.now at ≡ Words text.now)) }
 {
@@ -40,7 +40,7 @@ fn is_text(row: &Row, at: usize, text: &str) -> bool
     }
 }
 
-/// Whether the row ends as the version has it, behind the first five values.
+/// Whether a row of the inbox's table ends as the version has it, behind the first five values.
 fn has_tail(row: &Row, version: Version, number: u64) -> bool
     ensures { IsTrue result ↔ HasTail version number row.now }
 {
@@ -50,7 +50,7 @@ fn has_tail(row: &Row, version: Version, number: u64) -> bool
     }
 }
 
-/// Whether the row is that of the event at the place.
+/// Whether a row of the inbox's table is that of the event at the place.
 fn is_row(row: &Row, version: Version, place: u64, event: &Sequenced) -> bool
     ensures { IsTrue result ↔ (row.now ≡ shown_of version place event.now) }
 {
@@ -64,7 +64,7 @@ fn is_row(row: &Row, version: Version, place: u64, event: &Sequenced) -> bool
         && is_text(row, 4, event.text())
 }
 
-/// The canonical text that the row has in its fifth value.
+/// The canonical text that a row of the inbox's table has in its fifth value.
 fn body_of(row: &Row) -> Option<&[u8]>
     ensures some { IfSome result (λ body. column row.now 4 ≡ Words body.now) }
     ensures none { IfNone result ((t : List ℕ) → 4 < length row.now → column row.now 4 ≢ Words t) }
@@ -75,7 +75,7 @@ fn body_of(row: &Row) -> Option<&[u8]>
     }
 }
 
-/// The one event of a list.
+/// The one event of a list, as the text in a row of the inbox's table spells it.
 fn single(events: Events) -> Option<Event>
     ensures some { IfSome result (λ e. events ≡ e ∷ []) }
     ensures none { IfNone result ((e : EventValue) → events ≢ e ∷ []) }
@@ -88,7 +88,7 @@ fn single(events: Events) -> Option<Event>
     }
 }
 
-/// Whether the bytes are the event's canonical text.
+/// Whether the bytes in a row of the inbox's table are the event's canonical text.
 fn is_text_of(event: &Event, body: &[u8]) -> bool
     ensures value { IsTrue result ↔ (text event.now ≡ body.now) }
     ensures event { IsEvent event.now }
@@ -96,7 +96,7 @@ fn is_text_of(event: &Event, body: &[u8]) -> bool
     event.text().as_bytes() == body
 }
 
-/// The event that has a number and whose canonical text these bytes are; else `Foreign`.
+/// The event with a number whose canonical text an inbox's row has in these bytes; else `Foreign`.
 fn event_in(alloc: Global, body: &[u8]) -> Result<Sequenced, TableFault>
     ensures event { IfOk result (λ e. IsNumbered e × (text e ≡ body.now)) }
     ensures foreign { IfErr result (λ f. f ≡ Foreign
@@ -122,7 +122,7 @@ fn event_in(alloc: Global, body: &[u8]) -> Result<Sequenced, TableFault>
     }
 }
 
-/// The event of the row, where it is that of one at this place; else `Foreign`.
+/// The event of the inbox's row, where it is that of one at this place; else `Foreign`.
 pub(crate) fn event_of(
     alloc: Global,
     row: &Row,

@@ -17,7 +17,7 @@ use crate::watch::Watch;
 use attributes::Sequenced;
 use sqlite::{Alter, Connection, Error, Transaction, params};
 
-/// The number as SQL has it.
+/// The number as SQL has it in a row of the inbox's table.
 fn signed(number: u64) -> i64
     requires { number < 2 ^ 63 }
     ensures { result ≡ pos number }
@@ -25,7 +25,7 @@ fn signed(number: u64) -> i64
     number as i64
 }
 
-/// Runs the INSERT with these values.
+/// Runs the INSERT into the inbox's table with these values.
 fn insert<S: Alter>(
     tx: &mut Transaction<'_, S>,
     place: i64,
@@ -50,7 +50,7 @@ fn insert<S: Alter>(
     )
 }
 
-/// Puts the event in at the place, unless it is there, and answers whether it was not there.
+/// Puts the event into the inbox's table at the place, unless there; answers whether it was not.
 fn put<S: Alter>(tx: &mut Transaction<'_, S>, place: u64, event: &Sequenced) -> Result<bool, Error>
     requires { place < 2 ^ 63 }
     ensures same_reference { tx.new.conn.ghost_name ≡ tx.old.conn.ghost_name }
@@ -77,7 +77,7 @@ fn put<S: Alter>(tx: &mut Transaction<'_, S>, place: u64, event: &Sequenced) -> 
     Ok(count > 0)
 }
 
-/// One more, if it is new.
+/// One more of the events new to the inbox's table, if this is new.
 fn counted(fresh: u64, is_new: bool) -> u64
     requires { fresh < u64.MAX }
     ensures { result ≡ fresh + (if is_new then 1 else 0) }
@@ -88,7 +88,7 @@ fn counted(fresh: u64, is_new: bool) -> u64
 /// After how many events it is told how far a call came.
 const TOLD: u64 = 1_000;
 
-/// Tells how far a call came, after each thousand events.
+/// Tells how far a call of the inbox's table came, after each thousand events.
 fn tell<W: Watch>(watch: &W, count: u64, all: u64)
     ensures { count % 1000 ≡ 0 → W.told watch.now count all }
 {
@@ -97,8 +97,8 @@ fn tell<W: Watch>(watch: &W, count: u64, all: u64)
     }
 }
 
-/// Puts these events in behind so many rows, each unless it is there, and answers how many were
-/// not there. The watch is told after each thousand how many are in.
+/// Puts these events into the inbox's table behind so many rows, each unless it is there; answers
+/// how many were not there. The watch is told after each thousand how many are in.
 pub(crate) fn put_all<S: Alter, E: Listed, W: Watch>(
     tx: &mut Transaction<'_, S>,
     rows: u64,
@@ -127,8 +127,8 @@ pub(crate) fn put_all<S: Alter, E: Listed, W: Watch>(
     Ok(fresh)
 }
 
-/// Takes these events in one transaction into a table with so many rows, and answers how many were
-/// not there. The watch is told after each thousand how many are in.
+/// Takes these events in one transaction into an inbox's table with so many rows, and answers how
+/// many were not there. The watch is told after each thousand how many are in.
 pub(crate) fn keep<S: Alter, E: Listed, W: Watch>(
     conn: &mut Connection<S>,
     rows: u64,

@@ -145,8 +145,8 @@ impl<S: Alter> Table<S> {
         }
     }
 
-    /// As [`Table::adopt_and_load`], without giving the events; those of a table of version 2
-    /// aren't kept in memory.
+    /// As [`Table::adopt_and_load`] of the inbox, without giving the events; those of a table of
+    /// version 2 aren't kept in memory.
     #[tactic(auto, using(crate::proofs::TableLemmas::adopted_stands))]
     pub fn adopt(alloc: Global, conn: Connection<S>) -> Result<Table<S>, NotMade<S>>
         ensures adopts { IfOk result (λ t. HasCleanDisk (state S.Store t.conn)
@@ -188,8 +188,8 @@ impl<S: Alter> Table<S> {
         self.keep_watched(batch, &Unwatched)
     }
 
-    /// As [`Table::keep`]; the watch is told after each thousand events how many of them are in.
-    /// The events may be anyone's who lends them: a batch, or the last arrivals of a site.
+    /// As [`Table::keep`] of the inbox; the watch is told after each thousand events how many are
+    /// in. The events may be anyone's who lends them: a batch, or the last arrivals of a site.
     pub fn keep_watched<E: Listed, W: Watch>(
         &mut self,
         events: &E,
@@ -282,7 +282,7 @@ impl<S: Alter> Table<S> {
         Ok(found.events)
     }
 
-    /// How many events there are. Takes no time.
+    /// How many events the inbox's table has. Takes no time.
     pub fn rows(&self) -> u64
         ensures rows { result ≡ self.now.rows }
         ensures stands { StandsFor (state S.Store self.now.conn) result }
@@ -290,7 +290,7 @@ impl<S: Alter> Table<S> {
         self.rows
     }
 
-    /// Gives the connection back, with the table as it is.
+    /// Gives the connection back, with the inbox's table as it is.
     pub fn into_connection(self) -> Connection<S>
         ensures { result ≡ self.conn }
     {

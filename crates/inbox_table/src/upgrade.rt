@@ -21,8 +21,8 @@ use database_layout::{Layout, drop_inbox, make_inbox};
 use sqlite::{Alter, Connection, Error, ErrorCode, Transaction};
 use std::alloc::Global;
 
-/// Makes the table of version 2, puts the events of that of version 1 in, each at the place that it
-/// had, and drops that of version 1. The watch is told after each thousand how many are in.
+/// Makes the inbox's table of version 2, puts the events of that of version 1 in, each at its old
+/// place, and drops that of version 1. The watch is told after each thousand how many are in.
 fn refill<S: Alter, W: Watch>(
     tx: &mut Transaction<'_, S>,
     layout: Layout,
@@ -50,8 +50,8 @@ fn refill<S: Alter, W: Watch>(
     Ok(())
 }
 
-/// Copies the events of the table of version 1, which are these, into one of version 2 in its
-/// place, in one transaction. The watch is told as in [`refill`].
+/// Copies the events of the inbox's table of version 1, which are these, into one of version 2 in
+/// its place, in one transaction. The watch is told as in [`refill`].
 fn copy<S: Alter, W: Watch>(
     conn: &mut Connection<S>,
     layout: Layout,
@@ -80,8 +80,8 @@ fn copy<S: Alter, W: Watch>(
     tx.commit()
 }
 
-/// Tests each row of a table of version 1, and then puts one of version 2 with its events in its
-/// place. Its events. The watch is told after each thousand how many of them are in.
+/// Tests each row of an inbox's table of version 1, and then puts one of version 2 with its events
+/// in its place. Its events. The watch is told after each thousand how many of them are in.
 pub(crate) fn upgrade<S: Alter, W: Watch>(
     alloc: Global,
     conn: &mut Connection<S>,

@@ -9,7 +9,7 @@ use attributes::Sequenced;
 /// How many numbers a block has.
 const BLOCK: u64 = 1_024;
 
-/// The block of a number: block k has the numbers from 1024 k on, 1,024 of them.
+/// The block in an inbox's row of a number: block k has the 1,024 numbers from 1024 k on.
 pub(crate) fn block_of(number: u64) -> u64
     ensures { result ≡ number / 1024 }
 {
@@ -20,7 +20,7 @@ pub(crate) fn block_of(number: u64) -> u64
 pub(crate) trait Wanted {
     ghost wanted: { Self → EventValue → Bool };
 
-    /// Whether the event is kept.
+    /// Whether a reading of the inbox's table keeps the event.
     fn is_wanted(&self, event: &Sequenced) -> bool
         ensures { result ≡ wanted self.now event.now };
 }

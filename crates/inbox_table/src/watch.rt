@@ -8,7 +8,7 @@ pub trait Watch {
     /// It was told so many of so many. Only `kept` makes it so.
     ghost told: { Self → ℕ → ℕ → Type 0 };
 
-    /// So many of so many events are in the table.
+    /// The watch is told: so many of so many events are in the inbox's table.
     fn kept(&self, count: u64, all: u64)
         ensures { told self.now count all };
 }

@@ -9,7 +9,7 @@ use Rattle.site_lock.specs.Pass.{IsSamePass, ShownPass, leaves}
 use Rattle.keeper.specs.Keep.{AsksPages, Grows, max_page}
 use Rattle.keeper.specs.declared.fault.KeepFault.{KeepFault}
 
--- the most pages that a turn keeps
+-- the most pages of arrivals that a turn of the keeper keeps
 abbrev pub max_pages : ℕ
 max_pages = 10
 

@@ -21,51 +21,51 @@ use Rattle.site_lock.specs.Pass.{Made, ShownPass}
 use Rattle.keeper.specs.declared.fault.KeepFault.{KeepFault}
 use Rattle.keeper.specs.declared.fault.KeepFault.TheVariants.{Foreign}
 
--- the table of the database has the first so many of these arrivals, in their order, and no others
+-- the keeper's table has the first so many of these arrivals, in their order, and no others
 pub record HasFirst (db : Database) (rows : ℕ) (arrivals : List EventValue) : Type 0 where
   pub some : rows ≤ length arrivals
   pub table : IsInbox db (take rows arrivals)
 
--- it does so while the disk gives back what was written and the database is open
+-- a keeper's table has them while the disk gives back what was written and the database is open
 abbrev pub KeepsUp : State → ℕ → List EventValue → Type 0
 KeepsUp s rows arrivals =
     HasCleanDisk s → IsTrue s.is_open → HasFirst s.now rows arrivals
 
--- the table has all these arrivals, in their order, and no others
+-- the keeper's table has all these arrivals, in their order, and no others
 pub record HasAll (s : State) (rows : ℕ) (arrivals : List EventValue) : Type 0 where
   pub is_open : IsTrue s.is_open
   pub table : IsInbox s.now arrivals
   pub count : rows ≡ length arrivals
 
--- from p to q the pass made one call: it asked for a page of the arrivals after the first so many
+-- from p to q the keeper's pass made one call: for a page of arrivals after the first so many
 abbrev pub AsksFresh : ℕ → ShownPass → ShownPass → Type 0
 AsksFresh rows p q = (reply : Reply) × Made p q (call (command.Fresh rows max_page) reply)
 
--- it asked so many times, for page after page, and made no other call
+-- the keeper's pass asked so many times, for page after page, and made no other call
 abbrev pub AsksTimes : ℕ → ℕ → ShownPass → ShownPass → Type 0
 AsksTimes zero rows p q = q ≡ p
 AsksTimes (suc times) rows p q = (between : ShownPass) × AsksTimes times rows p between
     × AsksFresh (rows + max_page * times) between q
 
--- it did so once or more, so many times at most
+-- the keeper's pass asked for pages once or more, so many times at most
 abbrev pub AsksPages : ℕ → ℕ → ShownPass → ShownPass → Type 0
 AsksPages pages rows p q =
     (times : ℕ) × (1 ≤ times) × (times ≤ pages) × AsksTimes times rows p q
 
--- the last call of the pass had this reply
+-- the last call of the keeper's pass had this reply
 abbrev pub EndsWithReply : ShownPass → Reply → Type 0
 EndsWithReply p reply = (before : List (Entry Call)) × (command : Command)
     × (p.mine ≡ before ++ entry p.number (call command reply) ∷ [])
 
--- it got a page, or was refused
+-- the keeper's pass got a page, or was refused
 abbrev pub EndsPaged : ShownPass → Type 0
 EndsPaged p = (events : List EventValue) × EndsWithReply p (Paged events)
 
 abbrev pub EndsShort : ShownPass → Type 0
 EndsShort p = (taken : ℕ) × (fresh : ℕ) × EndsWithReply p (Refused taken fresh)
 
--- these are the trees of a database that has whatever events the table had, and more behind them or
--- none; what lies beside the table is as it was
+-- these are the trees of a database that has whatever events the keeper's table had, and more
+-- behind them or none; what lies beside the table is as it was
 pub record MayGrow (old : Database) (trees : Trees) : Type 0 where
   pub db : Database
   pub are : trees ≡ db.trees
@@ -86,8 +86,8 @@ pub record Grows (old new : State) : Type 0 where
   pub beside : HasCleanDisk new → IsTrue new.is_open → KeepsServiceBeside old.now new.now
   pub survives : Survives old new (λ trees. IsTrue old.is_open → MayGrow old.now trees)
 
--- these are the trees of a database that has the first so many of the arrivals, and behind them the
--- next ones, `most` at most; what lies beside the table is as it was
+-- these are the trees of a database with the first so many of a keeper's arrivals, and behind them
+-- the next ones, `most` at most; what lies beside the table is as it was
 pub record MayKeep (most rows : ℕ) (arrivals : List EventValue) (old : Database) (trees : Trees)
     : Type 0 where
   pub db : Database
@@ -96,7 +96,7 @@ pub record MayKeep (most rows : ℕ) (arrivals : List EventValue) (old : Databas
   pub first : HasFirst db (rows + min most (length arrivals - rows)) arrivals
   pub beside : KeepsServiceBeside old db
 
--- and these those of one that has them all
+-- and these the trees of a database that has all of a keeper's arrivals
 pub record MayKeepAll (arrivals : List EventValue) (old : Database) (trees : Trees) : Type 0 where
   pub db : Database
   pub are : trees ≡ db.trees

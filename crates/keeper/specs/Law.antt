@@ -12,7 +12,7 @@ use Rattle.turn_lock.specs.declared.machine.Entry.{Entry}
 use Rattle.site_lock.specs.Pass.{Made, ShownPass, leave, leaves}
 use Rattle.keeper.specs.Keep.{HasFirst}
 
--- a table that has the first arrivals after a history has them after a longer one too
+-- a keeper's table that has the first arrivals after a history has them after a longer one too
 abbrev pub FirstArrivalsStay : Type 0
 FirstArrivalsStay = (db : Database) (rows : ℕ) (opening : List EventValue)
     (seen more : List (Entry Call))

@@ -23,7 +23,7 @@ pub enum KeepFault {
 }
 
 impl KeepFault {
-    /// The number that the refusal is known by, 1 to 3.
+    /// The number that a keeper's refusal is known by, 1 to 3.
     pub fn number(self) -> u8
         ensures { result ≡ fault_number self }
     {
@@ -53,14 +53,14 @@ impl Model for Stop {
 }
 
 impl Stop {
-    /// Keeping was refused so.
+    /// That a keeper was refused so in keeping arrivals.
     pub(crate) fn of(fault: KeepFault) -> Stop
         ensures { result ≡ fault }
     {
         Stop { fault }
     }
 
-    /// Why keeping was refused.
+    /// Why a keeper was refused in keeping arrivals.
     pub fn fault(self) -> KeepFault
         ensures { result ≡ self }
     {
@@ -71,7 +71,7 @@ impl Stop {
 impl From<TableFault> for KeepFault {
     ghost from_gives = { λ fault kept. kept ≡ of_table fault };
 
-    /// The refusal of the table.
+    /// The keeper's refusal that one of the table is.
     fn from(fault: TableFault) -> KeepFault {
         match fault {
             TableFault::OutOfMemory => KeepFault::OutOfMemory,

@@ -80,8 +80,8 @@ impl<'a, R: Wait, S: Alter + Drop> Flusher<'a, R, S> {
         }
     }
 
-    /// Ten steps in one transaction, unless one was refused before. False where they are refused,
-    /// or others were.
+    /// Ten steps of the keeper in one transaction, unless one was refused before. False where they
+    /// are refused, or others were.
     pub fn flush(&mut self) -> bool
         ensures { Turns (λ conn. state S.Store conn) self.old self.new result }
     {
@@ -100,15 +100,15 @@ impl<'a, R: Wait, S: Alter + Drop> Flusher<'a, R, S> {
         }
     }
 
-    /// How many of the site's arrivals the table has. Takes no time.
+    /// How many of the shared site's arrivals the keeper's table has. Takes no time.
     pub fn kept(&self) -> u64
         ensures { result ≡ self.now.keeper.rows }
     {
         self.keeper.kept()
     }
 
-    /// The keeper, the pass and the refusal, if one came, as they stand. The table still has the
-    /// first arrivals after what the pass has seen.
+    /// The keeper, the pass and the refusal, if one came, as they stand. The keeper's table still
+    /// has the first arrivals after what the pass has seen.
     pub fn end(self) -> Flushed<S>
         ensures keeper { result.keeper ≡ self.entry.keeper }
         ensures pass { result.pass ≡ self.entry.pass }
@@ -143,7 +143,7 @@ impl<'a, R: Wait, S: Alter + Drop> Aside for Flusher<'a, R, S> {
 
     ghost goes_on = { λ f g h. flushes_on _ f g h };
 
-    /// A turn, as [`Flusher::flush`].
+    /// A turn of the keeper beside the workers, as [`Flusher::flush`].
     fn turn(&mut self) -> bool
         ensures { Turns (λ conn. state S.Store conn) self.old self.new result }
     {

@@ -14,7 +14,7 @@ use site_lock::{Pass, SharedSite};
 use std::alloc::AllocError;
 use std::sync::Wait;
 
-/// Moves events behind others.
+/// Moves the events of a page behind others that the keeper gathers.
 fn append(events: &mut Batch, page: Batch) -> Result<(), AllocError>
     ensures { OnOk result (events.new ≡ events.old ++ page) }
 {
@@ -28,8 +28,8 @@ fn append(events: &mut Batch, page: Batch) -> Result<(), AllocError>
     Ok(())
 }
 
-/// Waits for a turn a page, and asks for the events that came to the site behind the first `from`:
-/// so many pages at most, and none behind one that isn't full.
+/// Waits for a turn a page, and asks for what the keeper lacks, the events that came to the site
+/// behind the first `from`: so many pages at most, and none behind one that isn't full.
 pub(crate) fn gathered<R: Wait>(
     rt: &R,
     shared: &SharedSite,

@@ -52,7 +52,7 @@ impl<'a> Listed for Rest<'a> {
     }
 }
 
-/// The arrivals of a site behind the first n, lent. Takes no memory.
+/// The arrivals of a site behind the first n, lent to its keeper. Takes no memory.
 fn rest_of<'a>(site: &'a Site, n: u64) -> Rest<'a>
     ensures rest { drop result.n result.site.now ≡ drop n site.now }
     ensures once { AreDistinct site.now }
@@ -262,7 +262,7 @@ impl<S: Alter + Drop> Keeper<S> {
         Ok(())
     }
 
-    /// The mark: how many of the site's arrivals the table has, from the first on. Takes no time.
+    /// The keeper's mark: how many first arrivals of the site the table has. Takes no time.
     pub fn kept(&self) -> u64
         ensures mark { result ≡ self.now.rows }
         ensures stands { StandsFor (state S.Store self.now.conn) result }
@@ -270,7 +270,7 @@ impl<S: Alter + Drop> Keeper<S> {
         self.table.rows()
     }
 
-    /// Whether the first n arrivals are in the table.
+    /// Whether the keeper has the first n arrivals of the site in its table.
     pub fn acknowledged(&self, n: u64) -> bool
         ensures yes { n ≤ self.now.rows → result ≡ true }
         ensures no { result ≡ true → n ≤ self.now.rows }
@@ -278,7 +278,7 @@ impl<S: Alter + Drop> Keeper<S> {
         n <= self.table.rows()
     }
 
-    /// Gives the table back, as it is.
+    /// Gives the keeper's table back, as it is.
     pub fn into_table(self) -> Table<S>
         ensures { result ≡ self }
     {

@@ -4,9 +4,9 @@ ghost use Rattle.keeper.specs.Law.{AcknowledgedAreKept, FirstArrivalsStay};
 
 use site_lock::laws::calls_follow;
 
-/// What a table has of the first arrivals of a site, it has of them whatever is done with the site:
-/// a keeper that may make a step with one pass may make it with each pass of that site that has
-/// seen as much.
+/// What a keeper's table has of the first arrivals of a site, it has of them whatever is done with
+/// the site: a keeper that may make a step with one pass may make it with each pass of that site
+/// that has seen as much.
 pub fn first_arrivals_stay()
     ensures { FirstArrivalsStay }
 {}

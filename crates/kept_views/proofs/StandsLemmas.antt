@@ -301,7 +301,7 @@ module _ (A : List EventValue) (e : EventValue) (fresh : has key_cmp A e ≡ fal
         goes_count : (k : List ℕ) → count_of_kind (shown E') k + cond (bytes_eq k (kind_of o)) 1 0 ≡ mid_count k
         goes_count k = replaced_counts E e fresh_in o there less (sorted-in_order key_cmp_total A) (λ f. bytes_eq k (kind_of f))
 
-        -- it was count_in_table
+        -- it was counted
         pub was_counted : 0 < count_in mid.kinds (kind_of o)
         was_counted =
             let own : ◌≡◌ {A = ℕ} (cond (bytes_eq (kind_of o) (kind_of o)) 1 0) 1 = ap (λ b. cond b 1 0) ((bytes_eq-Decides (kind_of o) (kind_of o)).1 refl) in

@@ -5,6 +5,6 @@ use Rattle.std.specs.Option.{option_map_or}
 use Rattle.std.specs.RandomState.{initial_hasher}
 use Rattle.kept_views.specs.declared.seed.Seed.{Seed}
 
--- the hasher of the seed: that of its random state, else the one that everybody knows
+-- the hasher of the kept views' seed: that of its random state, else the one that everybody knows
 abbrev pub hasher_of : Seed → DefaultHasher
 hasher_of seed = option_map_or initial_hasher seed.state initial

@@ -23,8 +23,8 @@ use std::collections::BTreeMap;
 use views::laws::{latest_are_greatest, latest_are_one};
 use views::{Answer, Kinds, Query, answer};
 
-/// The counts in byte order of their texts, lent. Time in proportion to them, times the logarithm
-/// of their number.
+/// The kept counts of types in byte order of their texts, lent. Time in proportion to them, times
+/// the logarithm of their number.
 fn ordered_kinds(alloc: Global, kinds: &Tally) -> Result<BTreeMap<&str, u64>, AllocError>
     ensures { IfOk result (λ table. (shown : List EventValue)
         → CountsKinds shown (kinds_in kinds.now.entries)
@@ -37,7 +37,7 @@ fn ordered_kinds(alloc: Global, kinds: &Tally) -> Result<BTreeMap<&str, u64>, Al
     Ok(table)
 }
 
-/// The rows of a table of types, copied.
+/// The rows of the kept table of types, copied for an answer.
 fn listed_kinds(alloc: Global, table: &BTreeMap<&str, u64>) -> Result<Kinds, AllocError>
     ensures { IfOk result (λ rows. rows ≡ map (λ e. (e.0.now, e.1)) table.now.entries) }
 {
@@ -48,7 +48,7 @@ fn listed_kinds(alloc: Global, table: &BTreeMap<&str, u64>) -> Result<Kinds, All
     Ok(rows)
 }
 
-/// The counts in byte order of their texts.
+/// The answer to `kinds` from the kept counts, in byte order of their texts.
 fn list_kinds(alloc: Global, kinds: &Tally) -> Result<Kinds, AllocError>
     ensures { IfOk result (λ rows. (shown : List EventValue)
         → CountsKinds shown (kinds_in kinds.now.entries)
@@ -58,8 +58,8 @@ fn list_kinds(alloc: Global, kinds: &Tally) -> Result<Kinds, AllocError>
     Ok(listed_kinds(alloc, &table)?)
 }
 
-/// Copies of the latest events, by source, then subject. Time in proportion to them, times the
-/// logarithm of their number, and to what is copied.
+/// The answer to `latest` from kept views: copies of the latest events, by source, then subject.
+/// Time in proportion to them, times the logarithm of their number, and to what is copied.
 fn list_latest(alloc: Global, inbox: &Inbox, entities: &Entities) -> Result<Batch, AllocError>
     ensures { IfOk result (λ batch.
         RowsAreOf inbox.now.arrivals (shown (events inbox.now)) (entities_in entities.now.entries)

@@ -23,7 +23,7 @@ pub(crate) type DayKey = (String, Day);
 /// Counts of types by day. A type and day that isn't there has the count 0.
 pub(crate) type DayTally = IndexMap<DayKey, u64, Seed>;
 
-/// The type and the day of an event, if it has a time.
+/// The type and the day by which kept views count an event, if it has a time.
 pub(crate) fn day_of(alloc: Global, event: &Sequenced) -> Result<Option<DayKey>, AllocError>
     ensures { IfOk result (λ day. option_map day_in day ≡ kind_and_day event.now) }
 {
@@ -35,8 +35,8 @@ pub(crate) fn day_of(alloc: Global, event: &Sequenced) -> Result<Option<DayKey>,
     Ok(Some((kind, day)))
 }
 
-/// Counts a type and day once more, where there is one, for which there must be room. It takes no
-/// memory.
+/// Counts a type and day once more in kept views, where there is one, for which there must be room.
+/// It takes no memory.
 pub(crate) fn raise_day(tally: &mut DayTally, day: Option<DayKey>)
     requires room { 0 < spare tally.old }
     requires fits { (k : KindDay) → day_count_in (days_in tally.old.entries) k + 1 < 2 ^ 64 }
@@ -51,8 +51,8 @@ pub(crate) fn raise_day(tally: &mut DayTally, day: Option<DayKey>)
     let _ = tally.insert(day, before + 1);
 }
 
-/// Counts a type and day once less, where there is one; a count that falls to 0 is taken out. It
-/// takes no memory.
+/// Counts a type and day once less in kept views, where there is one; a count that falls to 0 is
+/// taken out. It takes no memory.
 pub(crate) fn lower_day(tally: &mut DayTally, day: Option<DayKey>)
     ensures counts { CountsChange is_kind_day (is_own (option_map day_in day)) one_less
         (days_in tally.old.entries) (days_in tally.new.entries) }
@@ -71,7 +71,7 @@ pub(crate) fn lower_day(tally: &mut DayTally, day: Option<DayKey>)
     }
 }
 
-/// Puts a count in at a key.
+/// Puts a count from the kept views in at a key of an ordered table.
 fn put_count<K: Ord + Drop>(
     table: &mut BTreeMap<K, u64>,
     key: K,
@@ -84,7 +84,7 @@ fn put_count<K: Ord + Drop>(
     Ok(())
 }
 
-/// The counts by type, then day, lent. Time in proportion to them, times the logarithm of
+/// The kept counts by type, then day, lent. Time in proportion to them, times the logarithm of
 /// their number.
 fn ordered_days(alloc: Global, days: &DayTally) -> Result<BTreeMap<(&str, Day), u64>, AllocError>
     ensures { IfOk result (λ table. (shown : List EventValue)
@@ -99,7 +99,7 @@ fn ordered_days(alloc: Global, days: &DayTally) -> Result<BTreeMap<(&str, Day), 
     Ok(table)
 }
 
-/// The rows of a table of types by day, copied.
+/// The rows of the kept table of types by day, copied for an answer.
 fn listed_days(alloc: Global, table: &BTreeMap<(&str, Day), u64>) -> Result<Days, AllocError>
     ensures { IfOk result (λ rows. rows ≡ map (λ e. ((e.0.0.now, e.0.1), e.1)) table.now.entries) }
 {
@@ -110,7 +110,7 @@ fn listed_days(alloc: Global, table: &BTreeMap<(&str, Day), u64>) -> Result<Days
     Ok(rows)
 }
 
-/// The counts by type, then day.
+/// The answer to `days` from the kept counts, by type, then day.
 pub(crate) fn list_days(alloc: Global, days: &DayTally) -> Result<Days, AllocError>
     ensures rows { IfOk result (λ rows. (shown : List EventValue)
         → CountsDays shown (days_in days.now.entries)

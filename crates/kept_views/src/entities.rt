@@ -29,7 +29,7 @@ pub(crate) struct Slot {
     pub(crate) rank: Rank,
 }
 
-/// Where the row of an event stands, if it has a subject.
+/// The slot where an event's row stands in the kept entities, if it has a subject.
 pub(crate) fn slot_of(alloc: Global, event: &Sequenced) -> Result<Option<Slot>, AllocError>
     ensures { IfOk result (λ slot. option_map slot_in slot ≡ slot_of event.now) }
 {
@@ -47,7 +47,7 @@ pub(crate) fn slot_of(alloc: Global, event: &Sequenced) -> Result<Option<Slot>, 
     }))
 }
 
-/// Puts a row in.
+/// Puts a row into the kept rows of an entity.
 fn put_row(alloc: Global, entities: &mut Entities, slot: Slot, place: u64) -> Result<(), AllocError>
     ensures ok { OnOk result (SetsSlot (Some (slot_in slot)) (Some place)
         (entities_in entities.old.entries) (entities_in entities.new.entries)) }
@@ -65,8 +65,8 @@ fn put_row(alloc: Global, entities: &mut Entities, slot: Slot, place: u64) -> Re
     Ok(())
 }
 
-/// Puts a row in where there is a slot, with its place. Memory is wanted for that alone, and where
-/// it is refused nothing has changed. Time logarithmic in the rows of the entity.
+/// Puts a row with its place into the kept entities, if there is a slot. Memory is wanted for that
+/// alone; where it is refused nothing has changed. Time logarithmic in the rows of the entity.
 pub(crate) fn bring(
     alloc: Global,
     entities: &mut Entities,
@@ -85,7 +85,7 @@ pub(crate) fn bring(
     }
 }
 
-/// Takes a row out; an entity without rows goes too.
+/// Takes a row out of the kept entities; an entity without rows goes too.
 fn take_row_out(entities: &mut Entities, slot: &Slot)
     ensures rows { SetsSlot (Some (slot_in slot.now)) None
         (entities_in entities.old.entries) (entities_in entities.new.entries) }
@@ -100,8 +100,8 @@ fn take_row_out(entities: &mut Entities, slot: &Slot)
     }
 }
 
-/// Empties a slot, where there is one. It takes no memory. Time logarithmic in the rows of the
-/// entity.
+/// Empties a slot of the kept entities, where there is one. It takes no memory. Time logarithmic in
+/// the rows of the entity.
 pub(crate) fn clear(entities: &mut Entities, slot: Option<Slot>)
     ensures rows { SetsSlot (option_map slot_in slot) None
         (entities_in entities.old.entries) (entities_in entities.new.entries) }

@@ -30,7 +30,7 @@ impl Views {
         Ok(views)
     }
 
-    /// Counts the event at place i of key order in, if it is shown; those before it have been.
+    /// Counts the event at place i of key order into kept views, if shown; those before have been.
     fn admit_at(&mut self, inbox: &Inbox, i: u64) -> Result<(), AllocError>
         requires in_range { i < length (events inbox.now) }
         requires before { AreTablesOf inbox.now.arrivals (shown_before i (events inbox.now)) self.old }

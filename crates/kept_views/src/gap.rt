@@ -11,7 +11,7 @@ ghost use Rattle.inbox.specs.Shown.{has_key};
 use attributes::Sequenced;
 use inbox::Inbox;
 
-/// Whether the event at place i of key order has the source and the id of an event.
+/// Whether the event at place i of key order has the source and id of one new to the views.
 fn has_key_at(inbox: &Inbox, i: u64, event: &Sequenced) -> bool
     requires { i < length (events inbox.now) }
     ensures { (e : EventValue) → slice_get (events inbox.now) i ≡ Some e
@@ -21,7 +21,7 @@ fn has_key_at(inbox: &Inbox, i: u64, event: &Sequenced) -> bool
     other.source() == event.source() && other.id() == event.id()
 }
 
-/// Whether there is an event with the source and the id of one that isn't there. The two that it
+/// Whether there is an event with the source and the id of one new to the views. The two that it
 /// would come between tell, since events with one source and id stand side by side.
 pub(crate) fn has_key_of(inbox: &Inbox, event: &Sequenced, gap: u64) -> bool
     requires { IsGapFor key_cmp (events inbox.now) event.now gap }

@@ -52,7 +52,7 @@ impl Model for Views {
     } };
 }
 
-/// The slot of an event, unless another event has the same.
+/// The kept slot of an event, unless another event has the same.
 fn slot_apart(
     alloc: Global,
     event: &Sequenced,
@@ -67,7 +67,7 @@ fn slot_apart(
 }
 
 impl Views {
-    /// The views of no events. Keys are hashed by the random state, which nobody else knows, so
+    /// Kept views of no events. Keys are hashed by the random state, which nobody else knows, so
     /// events from outside may come. They take no memory.
     pub fn with_hasher(alloc: Global, state: RandomState) -> Views
         ensures stands { AreTablesOfShown [] result }
@@ -87,7 +87,7 @@ impl Views {
         Views::with_seed(alloc, Seed::known())
     }
 
-    /// The views of no events, hashed by a seed.
+    /// Kept views of no events, whose keys are hashed by a seed.
     fn with_seed(alloc: Global, seed: Seed) -> Views
         ensures stands { AreTablesOfShown [] result }
         ensures states { result.states ≡ replicate 3 seed.state }
@@ -144,7 +144,7 @@ impl Views {
         self.admit(event, place, place)
     }
 
-    /// `put` of an event that isn't there, where another may have its source and id.
+    /// `put` in kept views of an event that isn't there, where another may have its source and id.
     fn put_beside(&mut self, inbox: &Inbox, event: &Sequenced) -> Result<(), AllocError>
         requires stands { AreTablesOfShown inbox.now.arrivals self.old }
         requires new { has key_cmp inbox.now.arrivals event.now ≡ false }
@@ -174,8 +174,8 @@ impl Views {
         }
     }
 
-    /// Counts an event in, which came at a place, where no more than `before` have been. On a
-    /// refusal nothing has changed.
+    /// Counts an event into the kept views, which came at a place, where no more than `before` have
+    /// been. On a refusal nothing has changed.
     pub(crate) fn admit(
         &mut self,
         event: &Sequenced,
@@ -204,7 +204,7 @@ impl Views {
         Ok(())
     }
 
-    /// Counts an event out, of its type and of its day, and empties a slot.
+    /// Counts an event out of the kept views, of its type and of its day, and empties a slot.
     fn dismiss(&mut self, event: &Sequenced, slot: Option<Slot>, day: Option<DayKey>)
         requires counted { 0 < count_in self.old.kinds (kind_of event.now) }
         requires own { option_map day_in day ≡ kind_and_day event.now }

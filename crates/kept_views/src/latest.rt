@@ -18,7 +18,7 @@ use std::collections::BTreeMap;
 /// Events by source and subject, lent.
 type Latest<'a> = BTreeMap<(&'a str, &'a str), &'a Sequenced>;
 
-/// The event that came at the place of the greatest number and id of an entity.
+/// The event that came at the place of the greatest number and id in an entity's kept rows.
 fn last_event<'a>(inbox: &'a Inbox, rows: &Rows) -> Option<&'a Sequenced>
     ensures { option_copied result ≡ top_event inbox.now.arrivals (rows_in rows.now) }
 {
@@ -32,7 +32,7 @@ fn last_event<'a>(inbox: &'a Inbox, rows: &Rows) -> Option<&'a Sequenced>
     }
 }
 
-/// Puts an event in at its source and subject.
+/// Puts an event in at its source and subject, in an answer from the kept rows.
 fn add<'a>(latest: &mut Latest<'a>, event: &'a Sequenced) -> Result<(), AllocError>
     ensures { OnOk result (map (λ e. ((e.0.0.now, e.0.1.now), Some e.1.now)) latest.new.entries
         ≡ put_all entity_cmp
@@ -45,7 +45,7 @@ fn add<'a>(latest: &mut Latest<'a>, event: &'a Sequenced) -> Result<(), AllocErr
     Ok(())
 }
 
-/// Puts the latest event of an entity in, if it has one.
+/// Puts the latest event of an entity with kept rows in, if it has one.
 fn add_last<'a>(latest: &mut Latest<'a>, inbox: &'a Inbox, rows: &Rows) -> Result<(), AllocError>
     ensures { OnOk result (map (λ e. ((e.0.0.now, e.0.1.now), Some e.1.now)) latest.new.entries
         ≡ put_all entity_cmp
@@ -59,8 +59,8 @@ fn add_last<'a>(latest: &mut Latest<'a>, inbox: &'a Inbox, rows: &Rows) -> Resul
     }
 }
 
-/// The latest event of each source and subject, by source, then subject, lent. Time in proportion
-/// to them, times the logarithm of their number.
+/// The latest event of each source and subject by the kept rows, by source, then subject, lent.
+/// Time in proportion to them, times the logarithm of their number.
 pub(crate) fn ordered_latest<'a>(
     alloc: Global,
     inbox: &'a Inbox,
@@ -80,7 +80,7 @@ pub(crate) fn ordered_latest<'a>(
     Ok(latest)
 }
 
-/// Copies of the events of a table.
+/// Copies of the events of a table made from the kept rows.
 pub(crate) fn copied(alloc: Global, latest: &Latest<'_>) -> Result<Batch, AllocError>
     ensures { IfOk result (λ batch. batch ≡ map (λ e. e.1.now) latest.now.entries) }
 {

@@ -12,15 +12,15 @@ pub(crate) struct Seed {
 }
 
 impl Seed {
-    /// A seed that nobody knows, for keys that come from outside.
+    /// A seed for kept views that nobody knows, for keys that come from outside.
     pub(crate) fn random(state: RandomState) -> Seed
         ensures { result.state ≡ Some state }
     {
         Seed { state: Some(state) }
     }
 
-    /// The seed that everybody knows, for keys that one trusts: whoever knows it can pick keys that
-    /// collide.
+    /// The seed for kept views that everybody knows, for keys that one trusts: whoever knows it can
+    /// pick keys that collide.
     pub(crate) fn known() -> Seed
         ensures { result.state ≡ None }
     {

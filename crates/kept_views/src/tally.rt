@@ -11,7 +11,7 @@ use indexmap::IndexMap;
 /// Counts of texts. A text that isn't there has the count 0.
 pub(crate) type Tally = IndexMap<String, u64, Seed>;
 
-/// Counts a text once more, for which there must be room. It takes no memory.
+/// Counts a type once more in kept views, for which there must be room. It takes no memory.
 pub(crate) fn raise(tally: &mut Tally, text: String)
     requires room { 0 < spare tally.old }
     requires fits { unwrap_or (get_by_text tally.old (string_bytes text)) 0 + 1 < 2 ^ 64 }
@@ -24,8 +24,8 @@ pub(crate) fn raise(tally: &mut Tally, text: String)
     let _ = tally.insert(text, before + 1);
 }
 
-/// Counts a text once less, which must have been counted; a count that falls to 0 is taken out. It
-/// takes no memory.
+/// Counts a type once less in kept views, which must have been counted; a count that falls to 0 is
+/// taken out. It takes no memory.
 pub(crate) fn lower(tally: &mut Tally, text: &str)
     requires counted { 0 < unwrap_or (get_by_text tally.old text.now) 0 }
     ensures counts { (k : List ℕ) → get_by_text tally.new k ≡ (if bytes_eq text.now k

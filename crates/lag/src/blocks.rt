@@ -9,7 +9,7 @@ ghost use Rattle.lag.specs.Blocks.{apart, apart_in, apart_of, differing, is_apar
 use coverage::{Intervals, Summary};
 use std::alloc::AllocError;
 
-/// Whether both digests are there and equal.
+/// Whether a block's digests in both summaries, of which the distance is told, are there and equal.
 fn is_one_digest(digest: Option<&[u8; 32]>, other: Option<&[u8; 32]>) -> bool
     ensures { result ≡ is_one_digest (option_copied digest.entry) (option_copied other.entry) }
 {
@@ -19,8 +19,8 @@ fn is_one_digest(digest: Option<&[u8; 32]>, other: Option<&[u8; 32]>) -> bool
     }
 }
 
-/// Whether a block of the first summary counts: where it is alone, one that the second has no digest
-/// of, and else one of which the second hasn't the same.
+/// Whether a block of the first summary counts as apart: where it is alone, one that the second has
+/// no digest of, and else one of which the second hasn't the same.
 fn is_apart(first: &Summary, second: &Summary, alone: bool, source: &str, block: u64) -> bool
     ensures { result ≡ is_apart first.now second.now alone source.now block }
 {
@@ -33,7 +33,7 @@ fn is_apart(first: &Summary, second: &Summary, alone: bool, source: &str, block:
     )
 }
 
-/// How many blocks count from one on and below another.
+/// How many blocks of two summaries count as apart from one on and below another.
 fn apart_in(first: &Summary, second: &Summary, alone: bool, source: &str, from: u64, to: u64) -> u64
     ensures count { result ≡ apart_in first.now second.now alone source.now (span from (to - from)) }
 {
@@ -46,7 +46,7 @@ fn apart_in(first: &Summary, second: &Summary, alone: bool, source: &str, from: 
     count
 }
 
-/// How many blocks of a source count, of which the first summary has these numbers.
+/// How many blocks of a source count as apart, of which the first summary has these numbers.
 fn apart_of(
     first: &Summary,
     second: &Summary,
@@ -73,7 +73,7 @@ fn apart_of(
     count
 }
 
-/// How many blocks of the first summary count; the greatest number where they are more.
+/// How many blocks of the first summary count as apart; the greatest number where they are more.
 fn apart(first: &Summary, second: &Summary, alone: bool) -> Result<u64, AllocError>
     ensures { IfOk result (λ n. n < u64.MAX
         → n ≡ apart first.now second.now alone (entries_of first.now)) }

@@ -11,7 +11,7 @@ pub use blocks::differing;
 use coverage::{Intervals, Summary};
 use std::alloc::AllocError;
 
-/// How many of these numbers of a source the summary lacks.
+/// How far a summary lags at a source: how many of these numbers of it the summary lacks.
 fn lacked(own: &Summary, source: &str, numbers: &Intervals) -> Result<u64, AllocError>
     ensures { IfOk result (λ n. LacksOf (numbers_of own.now source.now) numbers.now n) }
 {
@@ -21,8 +21,8 @@ fn lacked(own: &Summary, source: &str, numbers: &Intervals) -> Result<u64, Alloc
     }
 }
 
-/// How many numbers the second summary has that the first lacks, over all its sources; the greatest
-/// number where they are more. Time and memory in proportion to the sources and intervals of both.
+/// How far the first summary lags: how many of the second's numbers it lacks, over all sources; the
+/// greatest number if more. Time and memory in proportion to sources and intervals of both.
 pub fn lacking(own: &Summary, peer: &Summary) -> Result<u64, AllocError>
     ensures { IfOk result (λ n. n < u64.MAX → Lacks own.now (entries_of peer.now) n) }
 {

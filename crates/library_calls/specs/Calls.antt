@@ -29,33 +29,33 @@ pub use Rattle.coverage.specs.SummaryText.{WithoutLineEnd}
 
 -- ---- a site opened
 
--- a site without events, and the empty text
+-- libjumbetai's site without events, and the empty text
 abbrev pub IsEmpty : Held → Type 0
 IsEmpty held = (held.site ≡ []) × (held.text ≡ [])
 
 -- ---- events taken
 
--- a site of the arrivals A took all events of the batch, and has B
+-- libjumbetai's site of the arrivals A took all events of the batch, and has B
 abbrev pub TookAll : List EventValue → List EventValue → List EventValue → Reply → Type 0
 TookAll batch A B reply = (reply.status ≡ 0) × (B ≡ append_new key_cmp A batch)
     × (length A + reply.fresh ≡ length B) × (reply.fresh + reply.repeated ≡ length batch)
 
--- memory ran out at an event of the batch that wasn't there; those before it were taken
+-- memory ran out in libjumbetai's call at a new event of the batch; those before it were taken
 abbrev pub TookFront : List EventValue → List EventValue → List EventValue → Reply → Type 0
 TookFront batch A B reply = (reply.status ≡ 1) × (length A + reply.fresh ≡ length B)
     × (reply.repeated ≡ 0) × ((taken : ℕ) × (taken < length batch)
     × (B ≡ append_new key_cmp A (take taken batch)) × LacksEvent B batch taken)
 
--- the batch was taken, as far as memory went
+-- libjumbetai's site took the batch, as far as memory went
 abbrev pub TookBatch : List EventValue → List EventValue → List EventValue → Reply → Type 0
 TookBatch batch A B reply = TookAll batch A B reply ⊎ TookFront batch A B reply
 
--- nothing was taken, and this is why
+-- libjumbetai's call took nothing, and this is why
 abbrev pub TookNone : Refused → List EventValue → List EventValue → Reply → Type 0
 TookNone refused A B reply = (reply.status ≡ fault_number refused.fault) × (B ≡ A)
     × (reply.fresh ≡ 0) × (reply.repeated ≡ 0)
 
--- the bytes spell events with numbers, which were taken; or they were refused, and nothing was
+-- the caller's bytes spell events with numbers, which were taken; or were refused, and nothing was
 abbrev pub TookBytes : List ℕ → List EventValue → List EventValue → Reply → Type 0
 TookBytes bytes A B reply =
     ((batch : List EventValue) × SpellAll (bytes ∷ []) batch × TookBatch batch A B reply)
@@ -72,11 +72,11 @@ Took bytes held kept reply = TookBytes bytes held.site kept.site reply
 
 -- ---- texts answered
 
--- the text is the one that was made, which has so many events as a page
+-- libjumbetai's text is the one that was made, which has so many events as a page
 abbrev pub IsReplyKept : List ℕ → ℕ → List ℕ → Reply → Type 0
 IsReplyKept made listed text reply = (reply.status ≡ 0) × (text ≡ made) × (reply.listed ≡ listed)
 
--- the text is that of before, and this is the status
+-- libjumbetai's text is that of before, and this is the status
 abbrev pub IsLeft : ℕ → List ℕ → List ℕ → Reply → Type 0
 IsLeft status was text reply = (reply.status ≡ status) × (text ≡ was) × (reply.listed ≡ 0)
 
@@ -85,30 +85,30 @@ abbrev pub TellsText : List EventValue → List ℕ → Reply → Type 0
 TellsText events text reply = (reply.fresh ≡ 0) × (reply.repeated ≡ 0)
     × (reply.events ≡ length events) × (reply.length ≡ length text)
 
--- the events stay, and none is said to have been taken
+-- the events of libjumbetai's site stay, and none is said to have been taken
 abbrev pub TakesNone : Held → Held → Reply → Type 0
 TakesNone held kept reply = (kept.site ≡ held.site) × (reply.fresh ≡ 0) × (reply.repeated ≡ 0)
 
--- the text is kept, which has so many events as a page
+-- libjumbetai's text is kept, which has so many events as a page
 abbrev pub KeepsReplyText : List ℕ → ℕ → Held → Held → Reply → Type 0
 KeepsReplyText text listed held kept reply = (reply.status ≡ 0) × (kept.text ≡ text)
     × (reply.listed ≡ listed) × TakesNone held kept reply × TellsRoom kept reply
 
--- a call answers with a text that has so many events as a page, or tells by its status why there
--- is none; then the text of before stays. The events stay.
+-- libjumbetai's call answers with a text that has so many events as a page, or tells by its status
+-- why there is none; then the text of before stays. The events stay
 abbrev pub AnswersCall : (List ℕ → ℕ → Type 0) → (ℕ → Type 0) → Held → Held → Reply → Type 0
 AnswersCall made refused held kept reply =
     (((reply.status ≡ 0) × made kept.text reply.listed)
     ⊎ (refused reply.status × (kept.text ≡ held.text) × (reply.listed ≡ 0)))
     × TakesNone held kept reply × TellsRoom kept reply
 
--- the status of want of memory
+-- the status of libjumbetai's call that is want of memory
 abbrev pub IsWant : ℕ → Type 0
 IsWant status = status ≡ 1
 
 -- ---- questions asked
 
--- the number of a question, from 1
+-- the number of a question that libjumbetai's caller gives, from 1
 abbrev pub question_number : Query → ℕ
 question_number query.Cover = 1
 question_number query.Shown = 2
@@ -118,21 +118,21 @@ question_number query.Kinds = 5
 question_number query.Days = 6
 question_number query.Gaps = 7
 
--- the text answers the question of this number about the set E, and is no page
+-- libjumbetai's text answers the question of this number about the set E, and is no page
 abbrev pub AnswersAt : ℕ → List EventValue → List ℕ → ℕ → Type 0
 AnswersAt number E text listed =
     ((query : Query) × (number ≡ question_number query) × IsAnswer query E text) × (listed ≡ 0)
 
--- memory ran out, which it doesn't where there are neither events nor lines
+-- memory ran out in libjumbetai's call, which it doesn't if there are neither events nor lines
 abbrev pub WantsMemoryAt : ℕ → List EventValue → Type 0
 WantsMemoryAt number E = (query : Query) × (number ≡ question_number query)
     × (IsAnswer query E [] → E ≢ [])
 
--- no question has this number
+-- no question that libjumbetai answers has this number
 abbrev pub IsNoQuestion : ℕ → Type 0
 IsNoQuestion number = (query : Query) → number ≢ question_number query
 
--- why the question of this number about the set E has no answer
+-- the status why libjumbetai's question of this number about the set E has no answer
 abbrev pub IsUnanswered : ℕ → List EventValue → ℕ → Type 0
 IsUnanswered number E status =
     (IsWant status × WantsMemoryAt number E) ⊎ ((status ≡ 4) × IsNoQuestion number)
@@ -144,7 +144,7 @@ Asked number held kept reply = AnswersCall (AnswersAt number (set_of held.site))
 
 -- ---- the summary
 
--- the line of the summary that digests the set E, version 2
+-- libjumbetai's line of the summary that digests the set E, version 2
 abbrev pub IsSummaryLine : List EventValue → List ℕ → Type 0
 IsSummaryLine E text = (s : Sources) × Digests E s × (text ≡ summary_text s ++ 10 ∷ [])
 
@@ -155,11 +155,11 @@ Summed held kept reply = AnswersCall
 
 -- ---- pages
 
--- the bytes are the summary's text, or its line
+-- the bytes of libjumbetai's caller are the summary's text, or its line
 abbrev pub IsPeer : List ℕ → Sources → Type 0
 IsPeer bytes s = IsSummary s × WithoutLineEnd bytes (summary_text s)
 
--- the status of a refusal of a summary's text
+-- the status of libjumbetai's call that a refusal of a summary's text is
 abbrev pub summary_status : SummaryFault → ℕ
 summary_status summary.OutOfMemory = 1
 summary_status summary.NotJson = 5
@@ -167,17 +167,17 @@ summary_status summary.Shape = 6
 summary_status summary.Version = 7
 summary_status summary.NotCanonical = 8
 
--- why the bytes give no page: they are no summary's text, or memory ran out
+-- the status why the caller's bytes give no page: they are no summary's text, or memory ran out
 abbrev pub IsRefusedPeer : List ℕ → ℕ → Type 0
 IsRefusedPeer bytes status = (text : List ℕ) × WithoutLineEnd bytes text
     × ((why : SummaryFault) × (status ≡ summary_status why) × RefusesSummary text why)
 
--- the text is the line of these events, and so many they are
+-- libjumbetai's text is the line of these events, and so many they are
 abbrev pub IsPageLine : List EventValue → List ℕ → ℕ → Type 0
 IsPageLine events text listed = (text ≡ batch_line events) × (listed ≡ length events)
 
--- the text is the page from this place on of what the peer of the bytes lacks of the set E, at most
--- 100 events
+-- libjumbetai's text is the page from this place on of what the peer of the bytes lacks of the set
+-- E, at most 100 events
 abbrev pub LacksPageAt : List ℕ → ℕ → List EventValue → List ℕ → ℕ → Type 0
 LacksPageAt bytes from E text listed =
     (s : Sources) × IsPeer bytes s × IsPageLine (page (delta E s) from 100) text listed
@@ -203,7 +203,7 @@ Checked bytes held kept reply = AnswersCall
 
 -- ---- views kept
 
--- the call was done, or memory ran out
+-- libjumbetai's call was done, or memory ran out
 abbrev pub IsDoneOrWant : ℕ → Type 0
 IsDoneOrWant status = (status ≡ 0) ⊎ IsWant status
 
@@ -214,7 +214,7 @@ Viewed held kept reply = IsDoneOrWant reply.status × (kept.text ≡ held.text)
 
 -- ---- pieces read
 
--- the piece of a text with this number, from 0; behind the text's end a piece has no bytes
+-- the piece of libjumbetai's text with this number, from 0; behind the text's end it has no bytes
 abbrev pub piece_of : ℕ → List ℕ → List ℕ
 piece_of number text = take 4096 (drop (number * 4096) text)
 

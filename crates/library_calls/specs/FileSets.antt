@@ -9,7 +9,7 @@ use Rattle.library_calls.specs.declared.held.Held.{Held}
 use Rattle.library_calls.specs.declared.set_calls.Lag.{Lag}
 use Rattle.library_calls.specs.declared.set_calls.Name.{Name}
 
--- an open site was asked, which did this as one in memory does; its table stays, and what is owed
+-- libjumbetai's open site over files did this as one in memory; its table stays, and what is owed
 abbrev pub Over : (Held → Held → Type 0) → FileHeld → FileHeld → Type 0
 Over call held kept =
     (d : _) × (e : _) × (held.durable ≡ Some d) × (kept.durable ≡ Some e)
@@ -17,7 +17,7 @@ Over call held kept =
     × call (record { site = d.site; text = held.text; alloc = held.alloc })
     (record { site = e.site; text = kept.text; alloc = kept.alloc })
 
--- none is open, and the text stays
+-- no site over files is open, and libjumbetai's text stays
 abbrev pub IsShut : FileHeld → FileHeld → Type 0
 IsShut held kept = (held.durable ≡ None) × (kept.durable ≡ None) × (kept.text ≡ held.text)
 

@@ -24,7 +24,7 @@ use Rattle.library_calls.specs.declared.calls.Reply.{Reply}
 use Rattle.library_calls.specs.declared.file_held.FileHeld.{FileHeld}
 use Rattle.library_calls.specs.declared.held.Held.{Held}
 
--- the status of a refused opening
+-- the status of libjumbetai's call that a refused opening of files is
 abbrev pub open_status : OpenFault → ℕ
 open_status opening.OutOfMemory = 1
 open_status opening.System = 15
@@ -33,13 +33,13 @@ open_status opening.Damaged = 17
 open_status opening.Store = 18
 open_status opening.Foreign = 19
 
--- the status of a refusal of the table
+-- the status of libjumbetai's call that a refusal of the table is
 abbrev pub table_status : TableFault → ℕ
 table_status table.OutOfMemory = 1
 table_status table.Store = 18
 table_status table.Foreign = 19
 
--- the reply tells of no events that were taken and of no page
+-- the reply of libjumbetai's call tells of no events that were taken and of no page
 abbrev pub TellsNone : Reply → Type 0
 TellsNone reply = (reply.fresh ≡ 0) × (reply.repeated ≡ 0) × (reply.listed ≡ 0)
 
@@ -47,11 +47,11 @@ TellsNone reply = (reply.fresh ≡ 0) × (reply.repeated ≡ 0) × (reply.listed
 abbrev pub untold : Image
 untold = record { log = []; db = [] }
 
--- the status of events that are kept, by what is owed then
+-- the status of libjumbetai's call for events that are kept, by what is owed then
 abbrev pub IsStatusOfOwed : ℕ → List EventValue → Type 0
 IsStatusOfOwed status owed = ((status ≡ 0) × (owed ≡ [])) ⊎ ((status ≡ 20) × (owed ≢ []))
 
--- the reply to what the table came to, of so many events, after which these are owed
+-- libjumbetai's reply to what the table came to, of so many events, after which these are owed
 abbrev pub RepliesKept : ℕ → Result ℕ TableFault → List EventValue → Reply → Type 0
 RepliesKept count result owed reply = MatchResult result
     (λ fresh. (reply.fresh ≡ fresh) × (reply.repeated ≡ count - fresh)
@@ -115,7 +115,7 @@ module _ {D : Type 0} {g : disk.Ghosts D} where
       ((batch : List EventValue) × SpellAll (bytes ∷ []) batch × KeepsBatch batch d e reply)
       ⊎ ((refused : Refused) × IsRefusal (bytes ∷ []) refused × KeepsNone refused d e reply)
 
--- a site that wasn't opened says so
+-- libjumbetai's site over files that wasn't opened says so
 pub record IsNotOpen (held kept : FileHeld) (reply : Reply) : Type 0 where
   pub was : held.durable ≡ None
   pub is : kept.durable ≡ None
@@ -141,7 +141,7 @@ pub record TookFile (bytes : List ℕ) (held kept : FileHeld) (reply : Reply) : 
 
 -- ---- what is asked
 
--- what is asked by this number leaves and replies: what the call of a site in memory does
+-- libjumbetai's call by this number leaves and replies what the call of a site in memory does
 pub record Answered (what : ℕ) (bytes : List ℕ) (from : ℕ) (held kept : Held) (reply : Reply)
     : Type 0 where
   pub question : what < 8 → Asked what held kept reply

@@ -27,7 +27,7 @@ use Rattle.library_calls.specs.declared.calls.Piece.{Piece}
 use Rattle.library_calls.specs.declared.calls.Reply.{Reply}
 use Rattle.library_calls.specs.declared.numbers_held.NumbersHeld.{NumbersHeld}
 
--- the status of a refusal of a numberer
+-- the status of libjumbetai's call that a refusal of a numberer is
 abbrev pub number_status : NumbererFault → ℕ
 number_status fault.OutOfMemory = 1
 number_status (fault.HasSequence index) = 30
@@ -36,7 +36,7 @@ number_status (fault.Full index) = 24
 number_status fault.Store = 18
 number_status fault.Foreign = 19
 
--- the bytes spell no events, or memory ran out
+-- the bytes of libjumbetai's caller spell no events, or memory ran out
 abbrev pub IsNoEvents : List ℕ → ℕ → Type 0
 IsNoEvents bytes status = IsWant status ⊎ ((status ≡ 2) × ((why : ReadFault) × Refuses bytes why))
 
@@ -122,13 +122,13 @@ pub record OpenedNumbers (base : ℕ) (kept : NumbersHeld) (reply : Reply) : Typ
   pub listed : reply.listed ≡ 0
   pub length_is : reply.length ≡ 0
 
--- the text that was made lies there, or that of before, and the reply says which
+-- the text that libjumbetai's numberer made lies there, or that of before, and the reply says which
 abbrev pub KeepsMade : Result Answered ℕ → List ℕ → List ℕ → Reply → Type 0
 KeepsMade made text kept reply = MatchResult made
     (λ m. (kept ≡ m.text) × (reply.status ≡ 0) × (reply.listed ≡ m.listed))
     (λ status. (kept ≡ text) × (reply.status ≡ status) × (reply.listed ≡ 0))
 
--- no numberer is open, and the reply says so; the text stays
+-- no numberer is open in libjumbetai's room, and the reply says so; the text stays
 pub record IsShut (held kept : NumbersHeld) (reply : Reply) : Type 0 where
   pub was : held.numberer ≡ None
   pub is : kept.numberer ≡ None

@@ -20,13 +20,13 @@ use Rattle.library_calls.specs.declared.file_held.FileHeld.{FileHeld}
 use Rattle.library_calls.specs.declared.offers.Head.{Head}
 use Rattle.library_calls.specs.declared.offers.Offers.{Offers}
 
--- no body was offered
+-- no body was offered to libjumbetai's site
 abbrev pub no_offers : Offers
 no_offers = record { heads = []; batches = []; each = []; status = 0 }
 
 -- ---- bodies offered
 
--- a body spells events with numbers, and so many; or it is refused, and this is why
+-- a body that libjumbetai is offered spells events with numbers, and so many; or why it is refused
 abbrev pub ReadsBody : List ℕ → Head → List EventValue → Type 0
 ReadsBody bytes head batch =
     (SpellAll (bytes ∷ []) batch × (head.status ≡ 0) × (head.count ≡ length batch))
@@ -80,14 +80,14 @@ pub record KeptOffers (held kept : FileHeld) (reply : Reply) : Type 0 where
 
 -- ---- what became of a body
 
--- how many of a body's events were not there, and how many were: none of either where the table
--- refused
+-- how many of an offered body's events were not there, and how many were: none of either where the
+-- table refused
 abbrev pub CountsBody : Head → Option ℕ → Reply → Type 0
 CountsBody head fresh reply = MatchOption fresh ((reply.fresh ≡ 0) × (reply.repeated ≡ 0))
     (λ n. (reply.fresh ≡ n) × (reply.repeated ≡ head.count - n))
 
--- the reply tells what became of the body at a place: why it was refused, or what keeping all of
--- them came to
+-- the reply of libjumbetai tells what became of the body at a place: why it was refused, or what
+-- keeping all of them came to
 abbrev pub AnswerAt : Offers → ℕ → Reply → Type 0
 AnswerAt offers place reply = MatchOption (slice_get offers.heads place)
     ((reply.status ≡ 9) × (reply.fresh ≡ 0) × (reply.repeated ≡ 0))

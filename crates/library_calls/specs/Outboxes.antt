@@ -26,7 +26,7 @@ use Rattle.library_calls.specs.declared.outbox_calls.Unserved.{Unserved}
 use Rattle.library_calls.specs.declared.outbox_held.OutboxHeld.{OutboxHeld}
 pub use Rattle.event_json.specs.BatchText.{event_line}
 
--- the status of a refusal of a service
+-- the status of libjumbetai's call that a refusal of a service is
 abbrev pub outbox_status : OutboxFault → ℕ
 outbox_status outbox.OutOfMemory = 1
 outbox_status outbox.Store = 18
@@ -38,67 +38,67 @@ outbox_status outbox.Full = 24
 
 -- ---- commands named
 
--- the number of a command
+-- the number of a command that libjumbetai's caller gives
 abbrev pub action_number : Status → ℕ
 action_number Placed = 1
 action_number Shipped = 2
 action_number Cancelled = 3
 
--- a command has this number
+-- a command that libjumbetai's caller may give has this number
 abbrev pub IsAction : ℕ → Type 0
 IsAction action = (status : Status) × (action ≡ action_number status)
 
--- the bytes are a time of RFC 3339 of at most 64 bytes
+-- the bytes of libjumbetai's caller are a time of RFC 3339 of at most 64 bytes
 pub record IsTimeInBytes (bytes : List ℕ) : Type 0 where
   pub text : IsUtf8 bytes
   pub time : time_day bytes ≢ None
   pub short : length bytes ≤ 64
 
--- the arguments name this command
+-- the arguments of libjumbetai's call name this command
 pub record NamesCommand (action order : ℕ) (time : List ℕ) (c : Accepted) : Type 0 where
   pub action_is : action ≡ action_number c.status
   pub order_is : c.order ≡ order
   pub at_is : c.at ≡ time
   pub command : IsCommand c
 
--- they name none, and the status says which of them is the first that doesn't: the action, the
--- order, the time
+-- the arguments of libjumbetai's call name no command, and the status says which of them is the
+-- first that doesn't: the action, the order, the time
 abbrev pub NamesNone : ℕ → ℕ → List ℕ → ℕ → Type 0
 NamesNone action order time status = ((status ≡ 29) × (IsAction action → ⊥))
     ⊎ (IsAction action × (((status ≡ 26) × (IsOrder order → ⊥))
     ⊎ ((status ≡ 25) × IsOrder order × (IsTimeInBytes time → ⊥))))
 
--- memory for a copy of the time isn't there, and they name a command
+-- memory for a copy of the time isn't there, and the call's arguments name a command
 abbrev pub WantsTime : ℕ → ℕ → List ℕ → ℕ → Type 0
 WantsTime action order time status = IsWant status
     × ((c : Accepted) × NamesCommand action order time c)
 
 -- ---- what a service is opened with
 
--- the source of one that is made
+-- the source of a service that libjumbetai makes
 abbrev pub source_if_made : ℕ → List ℕ → List ℕ
 source_if_made has_source source = if has_source == 0 then codes "/orders" else source
 
--- a service may have this source and this base
+-- a service that libjumbetai is to make may have this source and this base
 abbrev pub IsGiven : ℕ → List ℕ → ℕ → Type 0
 IsGiven has_source source base = IsAllowed (source_if_made has_source source) base
 
--- a database has this service, or it was made there with what was given; where the source was asked
--- for, it has that
+-- libjumbetai's database has this service, or it was made there with what was given; where the
+-- source was asked for, it has that
 pub record FindsMeant {S : Type 0} (has_source : ℕ) (source : List ℕ) (base : ℕ) (old : State)
     (s : Shown S) (new : State) : Type 0 where
   pub opens : OpensService source base old s new
   pub meant : has_source ≢ 0 → s.source ≡ source
 
--- a source was asked for, and the service that the database has has another
+-- a source was asked for in libjumbetai's call, and the database's service has another
 pub record FindsAnother {S : Type 0} (has_source : ℕ) (source : List ℕ) (base : ℕ) (old : State)
     (s : Shown S) (new : State) : Type 0 where
   pub opens : OpensService source base old s new
   pub is_given : has_source ≢ 0
   pub other : s.source ≢ source
 
--- the service of a database, or why there is none: no service can be opened in it, or the one that
--- is there has another source. Then the connection comes back
+-- the service of libjumbetai's database, or why there is none: none can be opened in it, or the one
+-- that is there has another source. Then the connection comes back
 abbrev pub FindsServiceOrWhy : {S : Type 0} → Ghosts S → ℕ → List ℕ → ℕ → State
     → Result (Shown S) (Unserved S) → Type 0
 FindsServiceOrWhy g has_source source base old (Ok s) = FindsMeant has_source source base old s (state g s.conn)
@@ -210,7 +210,7 @@ module _ {D : Type 0} {g : disk.Ghosts D} where
   OpensAs has_source source base None reply = Serves has_source source base (Err reply.status)
       × (reply.base ≡ 0) × (reply.last ≡ 0) × (reply.orders ≡ 0)
 
--- no service is open, and the reply says so; the text stays
+-- no service is open in libjumbetai's room, and the reply says so; the text stays
 pub record IsShut (held kept : OutboxHeld) (reply : OutboxReply) : Type 0 where
   pub was : held.service ≡ None
   pub is : kept.service ≡ None

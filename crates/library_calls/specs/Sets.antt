@@ -24,29 +24,29 @@ use Rattle.library_calls.specs.declared.set_calls.Name.{Name}
 
 -- ---- arrivals
 
--- the events that came as the (after+1)st and on, at most 100, as a page
+-- the events of libjumbetai's site that came as the (after+1)st and on, at most 100, as a page
 abbrev pub Arrived : ℕ → Held → Held → Reply → Type 0
 Arrived after held kept reply =
     AnswersCall (IsPageLine (page held.site after 100)) IsWant held kept reply
 
 -- ---- events by their source and id
 
--- both are texts, UTF-8, as every source and id is
+-- the caller's source and id are both texts, UTF-8, as every source and id is
 abbrev pub AreTexts : List ℕ → List ℕ → Type 0
 AreTexts source id = IsUtf8 source × IsUtf8 id
 
--- the events of the set E that have this source and this id, the shown one first; bytes that are no
--- text name none
+-- the events of the set E that have the source and id that a caller gives, the shown one first;
+-- bytes that are no text name none
 pub record IsNamed (source id : List ℕ) (E events : List EventValue) : Type 0 where
   pub all : AreTexts source id → events ≡ with_key source id E
   pub none : (AreTexts source id → ⊥) → events ≡ []
 
--- the text has their canonical texts, a line each, and so many they are
+-- libjumbetai's text has the named events' canonical texts, a line each, and so many they are
 abbrev pub IsFound : List ℕ → List ℕ → List EventValue → List ℕ → ℕ → Type 0
 IsFound source id E text listed = (events : List EventValue) × IsNamed source id E events
     × (text ≡ event_lines events) × (listed ≡ length events)
 
--- memory ran out, which it doesn't where there is none
+-- memory ran out in libjumbetai's call, which it doesn't where there is no such event
 abbrev pub WantsFound : List ℕ → List ℕ → List EventValue → ℕ → Type 0
 WantsFound source id E status = IsWant status × (with_key source id E ≢ [])
 
@@ -57,7 +57,7 @@ Found source id held kept reply = AnswersCall (IsFound source id (set_of held.si
 
 -- ---- a text let go
 
--- the text is empty
+-- the text of libjumbetai's site is empty
 abbrev pub Released : Held → Held → Reply → Type 0
 Released held kept reply = KeepsReplyText [] 0 held kept reply
 
@@ -71,24 +71,24 @@ Copied held kept copy = (kept ≡ held) × (copy.text ≡ [])
 
 -- ---- the name of a set
 
--- the SHA-256 of the text of the summary that digests the set E, without a line end
+-- the SHA-256 by which libjumbetai names the set E: of its summary's text, without a line end
 abbrev pub IsNameOf : List EventValue → List ℕ → Type 0
 IsNameOf E bytes = (s : Sources) × Digests E s × (bytes ≡ sha256 (summary_text s))
 
--- the name of the set E is told, or memory ran out
+-- libjumbetai tells the name of the set E, or memory ran out
 abbrev pub TellsName : List EventValue → Name → Name → Type 0
 TellsName E was name = ((name.status ≡ 0) × IsNameOf E name.bytes)
     ⊎ (IsWant name.status × (name.bytes ≡ was.bytes))
 
--- so is that of the site's set; site and text stay
+-- libjumbetai tells the name of the site's set; site and text stay
 abbrev pub Named : Held → Held → Name → Name → Type 0
 Named held kept was name = (kept.site ≡ held.site) × (kept.text ≡ held.text)
     × TellsName (set_of held.site) was name
 
 -- ---- how far a peer is apart
 
--- the first summary lacks so many numbers of the second, the second so many of the first, and so
--- many blocks differ, where both tell of blocks
+-- libjumbetai's lag: the first summary lacks so many numbers of the second, the second so many of
+-- the first, and so many blocks differ, where both tell of blocks
 pub record IsApart (own peer : Sources) (lag : Lag) : Type 0 where
   pub done : lag.status ≡ 0
   pub lacking : lag.lacking < 18446744073709551615 → Lacks own (entries_of peer) lag.lacking
@@ -97,38 +97,38 @@ pub record IsApart (own peer : Sources) (lag : Lag) : Type 0 where
   pub blocks : version_of own ≡ 2 → version_of peer ≡ 2 → lag.blocks < 18446744073709551615
       → lag.blocks ≡ differing own peer
 
--- so far are the peer of the bytes and the set E apart
+-- so far are the peer of the caller's bytes and the set E apart
 abbrev pub IsLag : List ℕ → List EventValue → Lag → Type 0
 IsLag bytes E lag = (peer : Sources) × IsPeer bytes peer
     × ((own : Sources) × Digests E own × IsApart own peer lag)
 
--- it is told how far they are apart, or why it isn't
+-- libjumbetai tells how far the peer and the set are apart, or why it doesn't
 abbrev pub TellsLag : List ℕ → List EventValue → Lag → Type 0
 TellsLag bytes E lag = IsLag bytes E lag
     ⊎ (IsRefusedPeer bytes lag.status × (lag.lacking ≡ 0) × (lag.ahead ≡ 0) × (lag.blocks ≡ 0))
 
--- so it is told of the site's set; site and text stay
+-- libjumbetai tells how far the site's set and the peer are apart; site and text stay
 abbrev pub Compared : List ℕ → Held → Held → Lag → Type 0
 Compared bytes held kept lag = (kept.site ≡ held.site) × (kept.text ≡ held.text)
     × TellsLag bytes (set_of held.site) lag
 
 -- ---- parts of what a peer lacks
 
--- how many events a part has at most, where so many are asked for: 0 asks for a page
+-- how many events a part has at most, if libjumbetai's caller asks for so many: 0 asks for a page
 abbrev pub part_limit : ℕ → ℕ
 part_limit most = if most == 0 then 100 else min most 2000
 
--- how many bytes the texts of events have
+-- how many bytes the texts of events of libjumbetai's part have
 abbrev pub bytes_of : List EventValue → ℕ
 bytes_of events = sum_by (λ e. length (event_text e)) events
 
--- any pages before the last one have fewer bytes than are asked for, where that isn't 0
+-- any pages before a part's last one have fewer bytes than libjumbetai is asked for, if not 0
 abbrev pub IsBounded : ℕ → List EventValue → Type 0
 IsBounded size events = size ≢ 0 → (pages : ℕ) → pages * 100 < length events
     → bytes_of (take (pages * 100) events) < size
 
--- these are the next events from a place of a list on, page by page: as many as are asked for, or
--- those up to the page with which they have so many bytes
+-- these are the part from a place of a list on, page by page: as many as libjumbetai is asked for,
+-- or those up to the page with which they have so many bytes
 pub record IsSizedPart (lacking : List EventValue) (from most size : ℕ) (events : List EventValue)
     : Type 0 where
   pub next : events ≡ page lacking from (length events)
@@ -138,7 +138,7 @@ pub record IsSizedPart (lacking : List EventValue) (from most size : ℕ) (event
       ⊎ ((size ≢ 0) × (size ≤ bytes_of events)
       × ((pages : ℕ) × (length events ≡ pages * 100)))
 
--- the text is the part from this place on of what the peer of the bytes lacks of the set E
+-- libjumbetai's text is the part from this place on of what the bytes' peer lacks of the set E
 abbrev pub LacksPart : List ℕ → ℕ → ℕ → ℕ → List EventValue → List ℕ → ℕ → Type 0
 LacksPart bytes from most size E text listed = (s : Sources) × IsPeer bytes s
     × ((events : List EventValue) × IsSizedPart (delta E s) from most size events
@@ -152,7 +152,7 @@ PartLacked bytes from most size held kept reply =
 
 -- ---- bytes tested
 
--- the reply tells how many events the bytes spell, or why a site would take none of them
+-- libjumbetai's reply tells how many events the bytes spell, or why a site would take none of them
 abbrev pub Tested : List ℕ → Reply → Type 0
 Tested bytes reply = (reply.fresh ≡ 0) × (reply.repeated ≡ 0) × (reply.events ≡ 0)
     × (reply.length ≡ 0)

@@ -7,9 +7,9 @@ ghost use Rattle.inbox.specs.Sets.{set_of};
 ghost use Rattle.library_calls.specs.Calls.{AnswersAt, Asked, Checked, HasReadPiece, IsDoneOrWant, IsReplyKept, IsLeft, IsPageLine, IsPeer, IsRefusedPeer, IsSummaryLine, IsUnanswered, Lacked, LacksPageAt, Paged, Summed, TellsText, Took, TookBatch, TookNone, Viewed, WithoutLineEnd, batch_line, piece_of, question_number, summary_status};
 
 use crate::held::Held;
-use attributes::{Batch, Octets, Text};
+use attributes::{Batch, Text};
 use coverage::{Summary, SummaryFault};
-use event_files::{Refused, SequentialReader, events_of};
+use event_files::{EventReader, Refused, SequentialReader};
 use event_json::write_sequenced;
 use fault_lines::fault_lines;
 use site::Site;
@@ -23,9 +23,9 @@ use views::Query;
 #[repr(C)]
 #[derive(Drop)]
 pub struct Reply {
-    /// 0: done. 1: out of memory. 2: the bytes spell no events. 3: an event has no number. 4: no
-    /// such question. 5 to 8: the bytes are no summary's text, since they are no JSON, have another
-    /// shape, another version, or aren't written as a summary is.
+    /// 0: done. Else why not, by a number of `jumbetai.h`. 1: out of memory. 2: the bytes spell no
+    /// events. 3: an event has no number. 4: no such question. 5 to 8: the bytes are no summary's
+    /// text. 11, 15 to 20: of a file.
     pub status: u32,
     /// How many events were taken that weren't there.
     pub fresh: u64,
@@ -67,16 +67,18 @@ pub(crate) struct Answered {
     pub(crate) listed: u64,
 }
 
-/// The events that the bytes spell, each with its number.
+/// The events that the bytes given to libjumbetai spell, each with its number.
 pub(crate) fn batch_of(alloc: Global, bytes: &[u8]) -> Result<Batch, Refused>
     ensures ok { IfOk result (SpellAll (bytes.now ∷ [])) }
     ensures err { IfErr result (IsRefusal (bytes.now ∷ [])) }
 {
-    let files = [Octets::of(alloc, bytes)?];
-    events_of(alloc, &SequentialReader {}, &files)
+    match (SequentialReader {}).read(alloc, bytes, false) {
+        Ok(batch) => Ok(batch),
+        Err(fault) => Err(Refused { file: 0, fault }),
+    }
 }
 
-/// Takes the events that the bytes spell.
+/// Takes the events that the bytes spell into the site that lies in the room.
 pub fn site_take(mut held: Held, bytes: &[u8], reply: &mut Reply) -> Held
     ensures { Took bytes.now held result reply.new }
 {
@@ -88,7 +90,7 @@ pub fn site_take(mut held: Held, bytes: &[u8], reply: &mut Reply) -> Held
     held
 }
 
-/// Takes the events that were read, or tells why none were.
+/// Takes the events that a call of libjumbetai read, or tells why none were.
 fn settle(site: &mut Site, read: Result<Batch, Refused>, reply: &mut Reply)
     ensures ok { IfOk read (λ batch. TookBatch batch site.old site.new reply.new) }
     ensures err { IfErr read (λ refused. TookNone refused site.old site.new reply.new) }
@@ -111,7 +113,7 @@ fn settle(site: &mut Site, read: Result<Batch, Refused>, reply: &mut Reply)
     }
 }
 
-/// Keeps the text that was made in place of the last one, or tells why there is none.
+/// Keeps the text that libjumbetai's call made in place of the last one, or tells why there's none.
 pub(crate) fn keep(site: &Site, text: &mut Text, made: Result<Answered, u32>, reply: &mut Reply)
     ensures ok { IfOk made (λ m. IsReplyKept m.text m.listed text.new reply.new) }
     ensures err { IfErr made (λ status. IsLeft status text.old text.new reply.new) }
@@ -132,7 +134,7 @@ pub(crate) fn keep(site: &Site, text: &mut Text, made: Result<Answered, u32>, re
     reply.length = text.as_str().len() as u64;
 }
 
-/// The question of a number, from 1.
+/// The question of a number that libjumbetai's caller gives, from 1.
 pub(crate) fn query_at(number: u32) -> Option<Query>
     ensures some { IfSome result (λ query. number ≡ question_number query) }
     ensures none { IfNone result ((query : Query) → number ≢ question_number query) }
@@ -149,7 +151,7 @@ pub(crate) fn query_at(number: u32) -> Option<Query>
     }
 }
 
-/// The lines of the answer to the question of a number, or the status.
+/// The lines of the answer to the question of a number, or the status of libjumbetai's call.
 fn answer_at(site: &Site, number: u32) -> Result<Answered, u32>
     ensures ok { IfOk result (λ m. AnswersAt number (set_of site.now) m.text m.listed) }
     ensures err { IfErr result (IsUnanswered number (set_of site.now)) }
@@ -163,7 +165,7 @@ fn answer_at(site: &Site, number: u32) -> Result<Answered, u32>
     }
 }
 
-/// Keeps the text of the answer to a question.
+/// Keeps the text of the answer to a question in the room of libjumbetai's site.
 pub(crate) fn ask(site: &Site, alloc: Global, text: &mut Text, query: u32, reply: &mut Reply)
     ensures { Asked query (record { site = site.now; text = text.old; alloc = alloc })
         (record { site = site.now; text = text.new; alloc = alloc }) reply.new }
@@ -181,7 +183,7 @@ pub fn site_ask(mut held: Held, query: u32, reply: &mut Reply) -> Held
     held
 }
 
-/// The line of the summary that digests the site's events.
+/// The line of the summary that digests the events of libjumbetai's site.
 fn summary_line(site: &mut Site) -> Result<Text, AllocError>
     ensures same { site.new ≡ site.old }
     ensures ok { IfOk result (IsSummaryLine (set_of site.old)) }
@@ -191,7 +193,7 @@ fn summary_line(site: &mut Site) -> Result<Text, AllocError>
     Ok(Text::from_string(line))
 }
 
-/// The line of the summary, or the status.
+/// The line of the summary, or the status of libjumbetai's call.
 fn summary_of(site: &mut Site) -> Result<Answered, u32>
     ensures same { site.new ≡ site.old }
     ensures ok { IfOk result (λ m. IsSummaryLine (set_of site.old) m.text × (m.listed ≡ 0)) }
@@ -203,7 +205,7 @@ fn summary_of(site: &mut Site) -> Result<Answered, u32>
     }
 }
 
-/// Keeps the line of a site's summary.
+/// Keeps the line of a site's summary as libjumbetai's text.
 pub(crate) fn sum_up(site: &mut Site, alloc: Global, text: &mut Text, reply: &mut Reply)
     ensures { Summed (record { site = site.old; text = text.old; alloc = alloc })
         (record { site = site.new; text = text.new; alloc = alloc }) reply.new }
@@ -220,7 +222,7 @@ pub fn site_summary(mut held: Held, reply: &mut Reply) -> Held
     held
 }
 
-/// The bytes without one LF at their end, as a summary's line has.
+/// The bytes given to libjumbetai without one LF at their end, as a summary's line has.
 fn without_line_end(bytes: &[u8]) -> &[u8]
     ensures { WithoutLineEnd bytes.now result.now }
 {
@@ -230,7 +232,7 @@ fn without_line_end(bytes: &[u8]) -> &[u8]
     }
 }
 
-/// The status of a refusal of a summary's text.
+/// The status of libjumbetai's call that a refusal of a summary's text is.
 fn status_of(fault: SummaryFault) -> u32
     ensures { result ≡ summary_status fault }
 {
@@ -243,7 +245,7 @@ fn status_of(fault: SummaryFault) -> u32
     }
 }
 
-/// The summary that the bytes are the line or the text of, or the status.
+/// The summary that the bytes are the line or the text of, or the status of libjumbetai's call.
 pub(crate) fn peer_of(alloc: Global, bytes: &[u8]) -> Result<Summary, u32>
     ensures ok { IfOk result (IsPeer bytes.now) }
     ensures err { IfErr result (IsRefusedPeer bytes.now) }
@@ -254,7 +256,7 @@ pub(crate) fn peer_of(alloc: Global, bytes: &[u8]) -> Result<Summary, u32>
     }
 }
 
-/// A batch as a line.
+/// A batch as a line, for libjumbetai's text.
 pub(crate) fn batch_line(alloc: Global, batch: &Batch) -> Result<Text, AllocError>
     ensures { IfOk result (λ text. text ≡ batch_line batch.now) }
 {
@@ -263,7 +265,7 @@ pub(crate) fn batch_line(alloc: Global, batch: &Batch) -> Result<Text, AllocErro
     Ok(Text::from_string(line))
 }
 
-/// The line of a page, or want of memory.
+/// The line of a page, or want of memory, for a call of libjumbetai.
 pub(crate) fn page_line(alloc: Global, page: Result<Batch, AllocError>) -> Result<Answered, u32>
     ensures ok { IfOk result (λ m. IfOk page (λ events. IsPageLine events m.text m.listed)) }
     ensures page { IfOk result (λ m. IfErr page (λ _. ⊥)) }
@@ -281,7 +283,7 @@ pub(crate) fn page_line(alloc: Global, page: Result<Batch, AllocError>) -> Resul
     }
 }
 
-/// The page of what a peer lacks, from a place on, or the status.
+/// The page of what a peer lacks, from a place on, or the status of libjumbetai's call.
 fn delta_at(alloc: Global, site: &mut Site, peer: &[u8], from: u64) -> Result<Answered, u32>
     ensures same { site.new ≡ site.old }
     ensures ok { IfOk result (λ m. LacksPageAt peer.now from (set_of site.old) m.text m.listed) }
@@ -292,7 +294,7 @@ fn delta_at(alloc: Global, site: &mut Site, peer: &[u8], from: u64) -> Result<An
     page_line(alloc, page)
 }
 
-/// Keeps the page of what a peer lacks of a site, from a place on.
+/// Keeps as libjumbetai's text the page of what a peer lacks of a site, from a place on.
 pub(crate) fn show_lacked(
     site: &mut Site,
     alloc: Global,
@@ -323,7 +325,7 @@ pub fn site_delta(mut held: Held, peer: &[u8], from: u64, reply: &mut Reply) -> 
     held
 }
 
-/// Keeps the page of a site's events in key order, from a place on.
+/// Keeps as libjumbetai's text the page of a site's events in key order, from a place on.
 pub(crate) fn show_page(site: &Site, alloc: Global, text: &mut Text, from: u64, reply: &mut Reply)
     ensures { Paged from (record { site = site.now; text = text.old; alloc = alloc })
         (record { site = site.now; text = text.new; alloc = alloc }) reply.new }
@@ -342,7 +344,7 @@ pub fn site_page(mut held: Held, from: u64, reply: &mut Reply) -> Held
     held
 }
 
-/// What is wrong with bytes, a line for each event at fault, or the status.
+/// What is wrong with bytes, a line for each event at fault, or the status of libjumbetai's call.
 fn faults_in(alloc: Global, bytes: &[u8]) -> Result<Answered, u32>
     ensures ok { IfOk result (λ m. IsFaultText (codes "-") bytes.now m.text × (m.listed ≡ 0)) }
     ensures err { IfErr result (λ status. status ≡ 1) }
@@ -356,7 +358,7 @@ fn faults_in(alloc: Global, bytes: &[u8]) -> Result<Answered, u32>
     }
 }
 
-/// Keeps what is wrong with bytes, a line for each event at fault.
+/// Keeps as libjumbetai's text what is wrong with bytes, a line for each event at fault.
 pub(crate) fn check(site: &Site, alloc: Global, text: &mut Text, bytes: &[u8], reply: &mut Reply)
     ensures { Checked bytes.now (record { site = site.now; text = text.old; alloc = alloc })
         (record { site = site.now; text = text.new; alloc = alloc }) reply.new }
@@ -381,7 +383,7 @@ struct Seed<'a> {
 }
 
 impl RandomSource for Seed<'_> {
-    /// Copies the bytes; where more are wanted, the rest stays.
+    /// Copies the seed's bytes of libjumbetai's caller; where more are wanted, the rest stays.
     fn fill_bytes(&self, buf: &mut [u8]) -> io::Result<()>
         ensures done { IsOk result }
         ensures bytes { take (min (length buf.old) (length self.now.bytes.now)) buf.new
@@ -395,7 +397,7 @@ impl RandomSource for Seed<'_> {
     }
 }
 
-/// Has a site keep views, by a seed, and answers the status.
+/// Has libjumbetai's site keep views, by a seed, and answers the status.
 fn keep_views(site: &mut Site, seed: &[u8]) -> u32
     ensures same { site.new ≡ site.old }
     ensures status { IsDoneOrWant result }
@@ -409,7 +411,7 @@ fn keep_views(site: &mut Site, seed: &[u8]) -> u32
     }
 }
 
-/// Has a site keep views, by a seed; the text stays.
+/// Has libjumbetai's site keep views, by a seed; the text stays.
 pub(crate) fn view(site: &mut Site, alloc: Global, text: &Text, seed: &[u8], reply: &mut Reply)
     ensures { Viewed (record { site = site.old; text = text.now; alloc = alloc })
         (record { site = site.new; text = text.now; alloc = alloc }) reply.new }
@@ -430,7 +432,7 @@ pub fn site_keep_views(mut held: Held, seed: &[u8], reply: &mut Reply) -> Held
     held
 }
 
-/// Copies a piece of the answer's text, counted from 0; a piece behind the text's end has no bytes.
+/// Copies a piece of libjumbetai's text, counted from 0; a piece behind its end has no bytes.
 pub fn site_read(held: Held, piece: u32, out: &mut Piece) -> Held
     ensures { HasReadPiece piece held result out.old out.new }
 {
@@ -438,7 +440,7 @@ pub fn site_read(held: Held, piece: u32, out: &mut Piece) -> Held
     held
 }
 
-/// Copies a piece of a text into the front of the room, and answers how many bytes it has.
+/// Copies a piece of libjumbetai's text into the room's front, and answers how many bytes it has.
 pub(crate) fn copied(text: &[u8], piece: u32, room: &mut [u8; PIECE]) -> u64
     ensures length { result ≡ length (piece_of piece text.now) }
     ensures bytes { take result room.new ≡ piece_of piece text.now }
@@ -454,5 +456,5 @@ pub(crate) fn copied(text: &[u8], piece: u32, room: &mut [u8; PIECE]) -> u64
     count as u64
 }
 
-/// Lets the site go.
+/// Lets libjumbetai's site in the room go.
 pub fn site_close(held: Held) {}

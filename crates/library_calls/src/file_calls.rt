@@ -33,7 +33,7 @@ pub(crate) const NOT_OPEN: u32 = 11;
 /// The events are kept, and memory ran out before all were counted: the next take counts the rest.
 const OWED: u32 = 20;
 
-/// The status of a refused opening.
+/// The status of libjumbetai's call that a refused opening of files is.
 pub(crate) fn open_status(fault: OpenFault) -> u32
     ensures { result ≡ open_status fault }
 {
@@ -47,7 +47,7 @@ pub(crate) fn open_status(fault: OpenFault) -> u32
     }
 }
 
-/// The status of a refusal of the table.
+/// The status of libjumbetai's call that a refusal of the table is.
 fn table_status(fault: TableFault) -> u32
     ensures { result ≡ table_status fault }
 {
@@ -58,7 +58,7 @@ fn table_status(fault: TableFault) -> u32
     }
 }
 
-/// Sets a reply that tells of no events and of no page.
+/// Sets a reply to libjumbetai's caller that tells of no events and of no page.
 pub(crate) fn tell_nothing(status: u32, length: u64, reply: &mut Reply)
     ensures { reply.new ≡ record {
       status = status;
@@ -77,7 +77,7 @@ pub(crate) fn tell_nothing(status: u32, length: u64, reply: &mut Reply)
     reply.length = length;
 }
 
-/// A site over the files, whose events are all counted, or the status.
+/// A site over the files, whose events are all counted, or the status of libjumbetai's call.
 fn made(alloc: Global, given: GivenFiles) -> Result<FileSite<Unknown>, u32>
     ensures ok { IfOk result IsOpenedFile }
     ensures err { IfErr result (λ status. status ≢ 0) }
@@ -95,7 +95,7 @@ fn made(alloc: Global, given: GivenFiles) -> Result<FileSite<Unknown>, u32>
     }
 }
 
-/// Opens a site over the files.
+/// Opens a site over the files that libjumbetai's caller gave.
 pub fn file_open(alloc: Global, given: GivenFiles, reply: &mut Reply) -> FileHeld
     ensures { OpenedFile result reply.new }
 {
@@ -123,7 +123,7 @@ pub fn file_open(alloc: Global, given: GivenFiles, reply: &mut Reply) -> FileHel
     }
 }
 
-/// The status of events that are kept, by what is owed then.
+/// The status of libjumbetai's call for events that are kept, by what is owed then.
 fn kept_status(owed: &Owed) -> u32
     ensures { IsStatusOfOwed result owed.now }
 {
@@ -133,7 +133,7 @@ fn kept_status(owed: &Owed) -> u32
     OWED
 }
 
-/// Tells what the table came to, of so many events, after which these are owed.
+/// Tells the caller what the table came to, of so many events, after which these are owed.
 fn reply_kept(
     kept: Result<u64, TableFault>,
     count: u64,
@@ -156,7 +156,7 @@ fn reply_kept(
     }
 }
 
-/// Takes the events of a batch.
+/// Takes the events of a batch into libjumbetai's site over files.
 fn keep_batch(durable: &mut FileSite<Unknown>, batch: Batch, length: u64, reply: &mut Reply)
     ensures keeps { KeepsBatch batch durable.old durable.new reply.new }
     ensures length { reply.new.length ≡ length }
@@ -167,7 +167,7 @@ fn keep_batch(durable: &mut FileSite<Unknown>, batch: Batch, length: u64, reply:
     reply.events = durable.site.arrived();
 }
 
-/// Takes the events that were read, or tells why none were.
+/// Takes the events that were read into libjumbetai's site over files, or tells why none were.
 fn settle_file(
     durable: &mut FileSite<Unknown>,
     read: Result<Batch, Refused>,
@@ -187,7 +187,7 @@ fn settle_file(
     }
 }
 
-/// Takes the events that the bytes spell; so many bytes the text has.
+/// Takes the bytes' events into libjumbetai's site over files; so many bytes the text has.
 fn take_events(
     durable: &mut FileSite<Unknown>,
     alloc: Global,
@@ -202,7 +202,7 @@ fn take_events(
     settle_file(durable, read, length, reply);
 }
 
-/// Takes the events that the bytes spell.
+/// Takes the events that the bytes spell into the site over files that lies in the room.
 pub fn file_take(mut held: FileHeld, bytes: &[u8], reply: &mut Reply) -> FileHeld
     ensures { TookFile bytes.now held result reply.new }
 {
@@ -216,9 +216,9 @@ pub fn file_take(mut held: FileHeld, bytes: &[u8], reply: &mut Reply) -> FileHel
     held
 }
 
-/// Answers what is asked of a site, by a number: 1 to 7 a question, 8 its summary, 9 what a peer
-/// lacks, 10 a page, 11 what is wrong with bytes, 12 that it keep views, 13 a page of arrivals, 14
-/// that it let the text of its last answer go.
+/// Answers libjumbetai's caller on a site, by a number: 1 to 7 a question, 8 its summary, 9 what a
+/// peer lacks, 10 a page, 11 what is wrong with bytes, 12 that it keep views, 13 a page of
+/// arrivals, 14 that it let the text of its last answer go.
 pub(crate) fn answer(
     site: &mut Site,
     alloc: Global,
@@ -279,7 +279,7 @@ fn tell(
     answer(&mut durable.site, alloc, text, what, bytes, from, reply);
 }
 
-/// Answers what is asked, by its number.
+/// Answers what libjumbetai's caller asks of a site over files, by its number.
 pub fn file_tell(
     mut held: FileHeld,
     what: u32,
@@ -316,7 +316,7 @@ fn tell_file_name(durable: &mut FileSite<Unknown>, name: &mut Name)
     tell_name(&mut durable.site, name);
 }
 
-/// Tells the name of the site's set.
+/// Tells libjumbetai's caller the name of the set of a site over files.
 pub fn file_name(mut held: FileHeld, name: &mut Name) -> FileHeld
     ensures { NamedFile held result name.old name.new }
 {
@@ -329,7 +329,7 @@ pub fn file_name(mut held: FileHeld, name: &mut Name) -> FileHeld
     held
 }
 
-/// A copy of the site, where one is open; one without events where memory runs out.
+/// A copy of libjumbetai's site over files, if open; one without events where memory runs out.
 fn copy_in(durable: &Option<FileSite<Unknown>>, alloc: Global) -> Site
     ensures { MatchOption durable.now (result ≡ [])
         (λ d. (result ≡ d.site) ⊎ ((result ≡ []) × (d.site ≢ []))) }
@@ -340,7 +340,7 @@ fn copy_in(durable: &Option<FileSite<Unknown>>, alloc: Global) -> Site
     }
 }
 
-/// A site in memory with the same events and no text; one without events where memory runs out.
+/// The copy of a site over files in memory, without text; without events where memory runs out.
 pub fn file_copy(held: &mut FileHeld) -> Held
     ensures { CopiedFile held.old held.new result }
 {
@@ -361,7 +361,7 @@ fn compare_file(durable: &mut FileSite<Unknown>, alloc: Global, peer: &[u8], lag
     compare(&mut durable.site, alloc, peer, lag);
 }
 
-/// Tells how far the site and the peer of the bytes are apart.
+/// Tells libjumbetai's caller how far a site over files and the peer of the bytes are apart.
 pub fn file_compare(mut held: FileHeld, peer: &[u8], lag: &mut Lag) -> FileHeld
     ensures { ComparedFile peer.now held result lag.new }
 {
@@ -403,7 +403,7 @@ fn show_file_part(
     );
 }
 
-/// Keeps the part of what a peer lacks, from a place on.
+/// Keeps as libjumbetai's text the part of what a peer lacks of a site over files, from a place on.
 pub fn file_part(
     mut held: FileHeld,
     peer: &[u8],
@@ -433,7 +433,7 @@ pub fn file_part(
     held
 }
 
-/// Keeps the lines of the events of a source and an id.
+/// Keeps as libjumbetai's text the lines of the events of a source and an id, in a site over files.
 pub fn file_get(mut held: FileHeld, source: &[u8], id: &[u8], reply: &mut Reply) -> FileHeld
     ensures { FoundFile source.now id.now held result reply.new }
 {
@@ -446,7 +446,7 @@ pub fn file_get(mut held: FileHeld, source: &[u8], id: &[u8], reply: &mut Reply)
     held
 }
 
-/// Offers a body, which stands behind those that were offered.
+/// Offers a body to libjumbetai's site over files, which stands behind those that were offered.
 pub fn file_offer(held: FileHeld, bytes: &[u8], reply: &mut Reply) -> FileHeld
     ensures { Offered bytes.now held result reply.new }
 {
@@ -469,8 +469,8 @@ pub fn file_offer(held: FileHeld, bytes: &[u8], reply: &mut Reply) -> FileHeld
     }
 }
 
-/// Puts a body behind those that were offered, and tells what it came to; at want of memory all
-/// are let go.
+/// Puts a body behind those that were offered to libjumbetai's site, and tells what it came to; at
+/// want of memory all are let go.
 fn with_bytes(
     alloc: Global,
     offers: Offers,
@@ -490,7 +490,7 @@ fn with_bytes(
     Ok(offers)
 }
 
-/// Keeps the bodies that were offered.
+/// Keeps the bodies that were offered to libjumbetai's site over files.
 fn keep_offers(durable: &mut FileSite<Unknown>, alloc: Global, offers: Offers) -> Offers
     ensures { KeepsOffers offers result durable.old durable.new }
 {
@@ -516,7 +516,7 @@ fn keep_offers(durable: &mut FileSite<Unknown>, alloc: Global, offers: Offers) -
     }
 }
 
-/// Keeps the bodies that were offered, in one transaction.
+/// Keeps the bodies that were offered to the site that lies in the room, in one transaction.
 pub fn file_keep(held: FileHeld, reply: &mut Reply) -> FileHeld
     ensures { KeptOffers held result reply.new }
 {
@@ -551,7 +551,7 @@ pub fn file_keep(held: FileHeld, reply: &mut Reply) -> FileHeld
     }
 }
 
-/// Tells what became of the body at a place of those that were offered.
+/// Tells libjumbetai's caller what became of the body at a place of those that were offered.
 pub fn file_answer(held: FileHeld, place: u64, reply: &mut Reply) -> FileHeld
     ensures { HasAnswer place held result reply.new }
 {
@@ -559,7 +559,7 @@ pub fn file_answer(held: FileHeld, place: u64, reply: &mut Reply) -> FileHeld
     held
 }
 
-/// Copies a piece of the answer's text, counted from 0; a piece behind the text's end has no bytes.
+/// Copies a piece of libjumbetai's answer, counted from 0; a piece behind its end has no bytes.
 pub fn file_read(held: FileHeld, piece: u32, out: &mut Piece) -> FileHeld
     ensures { HasReadFile piece held result out.old out.new }
 {
@@ -567,7 +567,7 @@ pub fn file_read(held: FileHeld, piece: u32, out: &mut Piece) -> FileHeld
     held
 }
 
-/// Copies the log into the file, and lets the site go.
+/// Copies the log into the file, and lets libjumbetai's site over files go.
 pub fn file_close(held: FileHeld)
     ensures { LetsGo held }
 {

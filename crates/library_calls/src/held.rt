@@ -15,7 +15,7 @@ pub struct Held {
 }
 
 impl Held {
-    /// No events, and the empty text. It takes no memory.
+    /// The site of libjumbetai without events, and the empty text. It takes no memory.
     pub fn empty(alloc: Global) -> Held
         ensures { IsEmpty result }
     {

@@ -23,7 +23,7 @@ const HAS_SEQUENCE: u32 = 30;
 
 const TOO_LARGE: u32 = 31;
 
-/// The status of a refusal of a numberer.
+/// The status of libjumbetai's call that a refusal of a numberer is.
 fn number_status(fault: NumbererFault) -> u32
     ensures { result ≡ number_status fault }
 {
@@ -37,7 +37,7 @@ fn number_status(fault: NumbererFault) -> u32
     }
 }
 
-/// The status of a refused opening, whose files are closed as they are.
+/// The status of libjumbetai's refused opening, whose files are closed as they are.
 fn refused_status(refused: NotOpened<FileStore<FileFrom<Unknown>>>) -> u32
     ensures status { result ≡ number_status refused.fault }
     ensures closes { Closes refused.conn }
@@ -47,7 +47,7 @@ fn refused_status(refused: NotOpened<FileStore<FileFrom<Unknown>>>) -> u32
     number_status(fault)
 }
 
-/// The numberer of the database that the files hold, made where there is none, or the status.
+/// The numberer in the caller's files, made where there is none, or the status of the call.
 fn served(alloc: Global, given: GivenFiles, base: u64) -> Result<FileNumberer, u32>
     ensures { ServesNumbers base result }
 {
@@ -61,7 +61,7 @@ fn served(alloc: Global, given: GivenFiles, base: u64) -> Result<FileNumberer, u
     }
 }
 
-/// Opens a numberer over the files.
+/// Opens a numberer over the files that libjumbetai's caller gave.
 pub fn numbers_open(alloc: Global, given: GivenFiles, base: u64, reply: &mut Reply) -> NumbersHeld
     ensures { OpenedNumbers base result reply.new }
 {
@@ -87,7 +87,7 @@ pub fn numbers_open(alloc: Global, given: GivenFiles, base: u64, reply: &mut Rep
     }
 }
 
-/// The events that the bytes spell, or the status.
+/// The events that the bytes spell, or the status of libjumbetai's call to number them.
 fn events_in(alloc: Global, bytes: &[u8]) -> Result<Events, u32>
     ensures ok { IfOk result (Reads bytes.now) }
     ensures err { IfErr result (IsNoEvents bytes.now) }
@@ -99,7 +99,7 @@ fn events_in(alloc: Global, bytes: &[u8]) -> Result<Events, u32>
     }
 }
 
-/// Has a numberer number events: the line of them with their numbers, or the status.
+/// Has libjumbetai's numberer number events: the line of them with their numbers, or the status.
 fn number_line<S: Alter + Drop>(
     numberer: &mut Numberer<S>,
     alloc: Global,
@@ -113,7 +113,7 @@ fn number_line<S: Alter + Drop>(
     }
 }
 
-/// Has a numberer number the events that bytes spell: their line, or the status.
+/// Has a numberer number the bytes' events: their line, or the status of libjumbetai's call.
 fn number_bytes<S: Alter + Drop>(
     numberer: &mut Numberer<S>,
     alloc: Global,
@@ -127,7 +127,7 @@ fn number_bytes<S: Alter + Drop>(
     }
 }
 
-/// Keeps the text that was made in place of the last one, or tells why there is none.
+/// Keeps the text that was made in place of the numberer's last one, or tells the caller why not.
 fn keep_text(made: Result<Answered, u32>, text: &mut Text, reply: &mut Reply)
     ensures keeps { KeepsMade made text.old text.new reply.new }
     ensures length { reply.new.length ≡ length text.new }
@@ -143,8 +143,8 @@ fn keep_text(made: Result<Answered, u32>, text: &mut Text, reply: &mut Reply)
     reply.length = text.as_str().len() as u64;
 }
 
-/// Has a numberer number the events that bytes spell, keeps their line, and tells how many it
-/// numbered.
+/// Has libjumbetai's numberer number the events that bytes spell, keeps their line, and tells how
+/// many it numbered.
 fn number_and_tell<S: Alter + Drop>(
     numberer: &mut Numberer<S>,
     alloc: Global,
@@ -163,7 +163,7 @@ fn number_and_tell<S: Alter + Drop>(
     reply.events = numberer.table.rows();
 }
 
-/// Numbers the events that the bytes spell.
+/// Numbers the events that the bytes spell, by the numberer that lies in the room.
 pub fn numbers_number(mut held: NumbersHeld, bytes: &[u8], reply: &mut Reply) -> NumbersHeld
     ensures { Numbered bytes.now held result reply.new }
 {
@@ -175,7 +175,7 @@ pub fn numbers_number(mut held: NumbersHeld, bytes: &[u8], reply: &mut Reply) ->
     held
 }
 
-/// Copies a piece of the answer's text, counted from 0; a piece behind the text's end has no bytes.
+/// Copies a piece of libjumbetai's numbered text, counted from 0; one behind its end has no bytes.
 pub fn numbers_read(held: NumbersHeld, piece: u32, out: &mut Piece) -> NumbersHeld
     ensures { HasReadNumbers piece held result out.old out.new }
 {
@@ -183,7 +183,7 @@ pub fn numbers_read(held: NumbersHeld, piece: u32, out: &mut Piece) -> NumbersHe
     held
 }
 
-/// Copies the log into the file, and lets the numberer go.
+/// Copies the log into the file, and lets libjumbetai's numberer go.
 pub fn numbers_close(held: NumbersHeld)
     ensures { LetsGoNumbers held }
 {

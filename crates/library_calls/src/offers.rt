@@ -39,7 +39,7 @@ pub struct Offers {
 /// No body has this place.
 const NO_BODY: u32 = 9;
 
-/// What a body comes to, and its events.
+/// What a body offered to libjumbetai's site comes to, and its events.
 pub(crate) fn body_of(alloc: Global, bytes: &[u8]) -> Result<Body, AllocError>
     ensures { IfOk result (λ body. ReadsBody bytes.now body.head body.batch) }
 {
@@ -66,7 +66,7 @@ pub(crate) fn body_of(alloc: Global, bytes: &[u8]) -> Result<Body, AllocError>
 }
 
 impl Offers {
-    /// No body. It takes no memory.
+    /// No body offered to libjumbetai's site. It takes no memory.
     pub(crate) fn none(alloc: Global) -> Offers
         ensures { result ≡ no_offers }
     {
@@ -78,14 +78,14 @@ impl Offers {
         }
     }
 
-    /// Lets all bodies go.
+    /// Lets all bodies that were offered to libjumbetai's site go.
     pub(crate) fn let_go(&mut self, alloc: Global)
         ensures { self.new ≡ no_offers }
     {
         *self = Offers::none(alloc);
     }
 
-    /// These, and a body behind them. At want of memory all are let go.
+    /// Bodies offered to libjumbetai's site, and one behind them. At want of memory all are let go.
     pub(crate) fn with(mut self, body: Body) -> Result<Offers, AllocError>
         ensures { IfOk result (λ o. IsOfferedBehind body.head body.batch self o) }
     {
@@ -95,7 +95,7 @@ impl Offers {
         Ok(self)
     }
 
-    /// Tells what became of the body at a place.
+    /// Tells libjumbetai's caller what became of the offered body at a place.
     pub(crate) fn answer(&self, place: u64, reply: &mut Reply)
         ensures { AnswerAt self.now place reply.new }
     {

@@ -65,7 +65,7 @@ const ANOTHER_SOURCE: u32 = 28;
 
 const NO_SUCH_ACTION: u32 = 29;
 
-/// The status of a refusal of a service.
+/// The status of libjumbetai's call that a refusal of a service is.
 fn outbox_status(fault: OutboxFault) -> u32
     ensures { result ≡ outbox_status fault }
 {
@@ -80,7 +80,7 @@ fn outbox_status(fault: OutboxFault) -> u32
     }
 }
 
-/// Sets a reply that tells of no service.
+/// Sets a reply to libjumbetai's caller that tells of no service.
 fn tell(status: u32, number: u64, listed: u64, length: u64, reply: &mut OutboxReply)
     ensures { reply.new ≡ record {
       status = status;
@@ -101,14 +101,14 @@ fn tell(status: u32, number: u64, listed: u64, length: u64, reply: &mut OutboxRe
     reply.length = length;
 }
 
-/// The number of a service's last row, or its base.
+/// The number of the last row of libjumbetai's service, or its base.
 fn last_of<S: Alter>(service: &Service<S>) -> u64
     ensures { result ≡ service.now.last }
 {
     service.base() + service.rows()
 }
 
-/// Tells of a service in a reply, beside what that tells of the call.
+/// Tells of a service in a reply of libjumbetai, beside what that tells of the call.
 fn tell_service<S: Alter>(service: &Service<S>, reply: &mut OutboxReply)
     ensures tells { TellsService S.Store service.now reply.new }
     ensures rest { (reply.new.status ≡ reply.old.status) × (reply.new.number ≡ reply.old.number)
@@ -119,14 +119,14 @@ fn tell_service<S: Alter>(service: &Service<S>, reply: &mut OutboxReply)
     reply.orders = service.orders();
 }
 
-/// The source of a service that is made where none is given.
+/// The source of a service that libjumbetai makes where none is given.
 fn own_source(alloc: Global) -> Result<Text, AllocError>
     ensures { IfOk result (λ text. text ≡ source_if_made 0 []) }
 {
     Text::of(alloc, "/orders")
 }
 
-/// A source that was given.
+/// A source of a service that libjumbetai's caller gave.
 fn named_source(alloc: Global, source: &[u8]) -> Result<Text, u32>
     ensures ok { IfOk result (λ text. (text ≡ source.now) × IsAllowed text 0) }
     ensures err { IfErr result (λ status. IsWant status
@@ -148,7 +148,7 @@ fn named_source(alloc: Global, source: &[u8]) -> Result<Text, u32>
     }
 }
 
-/// The source of a service that is made, where the base may be one.
+/// The source of a service that libjumbetai makes, where the base may be one.
 fn source_given(alloc: Global, has_source: u32, source: &[u8], base: u64) -> Result<Text, u32>
     ensures ok { IfOk result (λ text. (text ≡ source_if_made has_source source.now)
         × IsAllowed text base) }
@@ -167,14 +167,14 @@ fn source_given(alloc: Global, has_source: u32, source: &[u8], base: u64) -> Res
     }
 }
 
-/// Whether the texts are the same.
+/// Whether the texts are the same source of libjumbetai's service.
 fn is_same(one: &Text, other: &Text) -> bool
     ensures { IsTrue result ↔ (one.now ≡ other.now) }
 {
     one.as_str() == other.as_str()
 }
 
-/// Whether a service with this source of its own is the one that was asked for.
+/// Whether a service with this source of its own is the one that libjumbetai's caller asked for.
 fn is_meant(has_source: u32, own: &Text, source: &Text) -> bool
     ensures meant { IsTrue result → has_source ≢ 0 → own.now ≡ source.now }
     ensures another { IsFalse result → (has_source ≢ 0) × (own.now ≢ source.now) }
@@ -189,7 +189,7 @@ struct Unserved<S: Alter> {
     status: u32,
 }
 
-/// The service of a database, made where there is none.
+/// The service of a database that libjumbetai opens, made where there is none.
 fn service_of<S: Alter + Drop>(
     alloc: Global,
     conn: Connection<S>,
@@ -217,7 +217,7 @@ fn service_of<S: Alter + Drop>(
     })
 }
 
-/// Why no service is served, whose files are closed as they are.
+/// Why libjumbetai serves no service, whose files are closed as they are.
 fn closed(unserved: Unserved<FileStore<FileFrom<Unknown>>>) -> u32
     ensures status { result ≡ unserved.status }
     ensures closes { Closes unserved.conn }
@@ -227,7 +227,7 @@ fn closed(unserved: Unserved<FileStore<FileFrom<Unknown>>>) -> u32
     status
 }
 
-/// The service of the database that the files hold, made where there is none, or the status.
+/// The service in the caller's files, made where there is none, or the status of the call.
 fn served(
     alloc: Global,
     given: GivenFiles,
@@ -251,7 +251,7 @@ fn served(
     }
 }
 
-/// Opens an outbox over the files.
+/// Opens an outbox over the files that libjumbetai's caller gave.
 pub fn outbox_open(
     alloc: Global,
     given: GivenFiles,
@@ -292,7 +292,7 @@ struct OrderCommand {
     at: Moment,
 }
 
-/// The command of a number, from 1.
+/// The command on an order of a number that libjumbetai's caller gives, from 1.
 fn action_at(number: u32) -> Option<Status>
     ensures some { IfSome result (λ status. number ≡ action_number status) }
     ensures none { IfNone result (IsAction number → ⊥) }
@@ -305,7 +305,7 @@ fn action_at(number: u32) -> Option<Status>
     }
 }
 
-/// The status of a refusal of a time.
+/// The status of libjumbetai's call that a refusal of a time is.
 fn time_status(fault: Fault) -> u32
     ensures { (IsWant result × (fault ≡ time.OutOfMemory))
         ⊎ ((result ≡ 25) × (fault ≢ time.OutOfMemory)) }
@@ -316,7 +316,7 @@ fn time_status(fault: Fault) -> u32
     }
 }
 
-/// The time that the bytes are, or the status.
+/// The time of a command that the bytes are, or the status of libjumbetai's call.
 fn moment_of(alloc: Global, bytes: &[u8]) -> Result<Moment, u32>
     ensures ok { IfOk result (λ at. (at ≡ bytes.now) × IsTimeInBytes bytes.now) }
     ensures err { IfErr result (λ status. (IsWant status × IsTimeInBytes bytes.now)
@@ -334,7 +334,7 @@ fn moment_of(alloc: Global, bytes: &[u8]) -> Result<Moment, u32>
     }
 }
 
-/// The command that the arguments name, or the status.
+/// The command that the arguments name, or the status of libjumbetai's call.
 fn command_of(alloc: Global, action: u32, order: u64, time: &[u8]) -> Result<OrderCommand, u32>
     ensures ok { IfOk result (λ c. NamesCommand action order time.now
         (record { status = c.status; order = c.order; at = c.at })) }
@@ -353,7 +353,7 @@ fn command_of(alloc: Global, action: u32, order: u64, time: &[u8]) -> Result<Ord
     }
 }
 
-/// Gives a service a command, and answers the event of its row.
+/// Gives libjumbetai's service a command, and answers the event of its row.
 fn command<S: Alter>(
     service: &mut Service<S>,
     status: Status,
@@ -375,7 +375,7 @@ fn command<S: Alter>(
     }
 }
 
-/// The line of the event that the command has where it is accepted.
+/// The line of the event that the command of libjumbetai's caller has where it is accepted.
 fn next_line<S: Alter>(
     alloc: Global,
     service: &Service<S>,
@@ -394,7 +394,7 @@ fn next_line<S: Alter>(
     }
 }
 
-/// An event as a line.
+/// An event of libjumbetai's outbox as a line.
 fn event_line(alloc: Global, event: &Sequenced) -> Result<Text, AllocError>
     ensures { IfOk result (λ text. text ≡ event_line event.now) }
 {
@@ -404,7 +404,7 @@ fn event_line(alloc: Global, event: &Sequenced) -> Result<Text, AllocError>
     Ok(Text::from_string(line))
 }
 
-/// Tells of a refusal; the text of before stays.
+/// Tells libjumbetai's caller of a refusal of its outbox; the text of before stays.
 fn refuse(status: u32, text: &Text, reply: &mut OutboxReply)
     ensures replies { (reply.new.status ≡ status) × (reply.new.number ≡ 0)
         × (reply.new.listed ≡ 0) × (reply.new.length ≡ length text.now) }
@@ -413,7 +413,7 @@ fn refuse(status: u32, text: &Text, reply: &mut OutboxReply)
     tell(status, 0, 0, text.as_str().len() as u64, reply);
 }
 
-/// Gives a service a command, and keeps the line of its event.
+/// Gives libjumbetai's service a command, and keeps the line of its event as the text.
 fn carry_out<S: Alter>(
     service: &mut Service<S>,
     alloc: Global,
@@ -444,7 +444,7 @@ fn carry_out<S: Alter>(
     }
 }
 
-/// Gives a service the command that the arguments name, and keeps the line of its event.
+/// Gives libjumbetai's service the command that the arguments name, and keeps its event's line.
 fn ordered<S: Alter>(
     service: &mut Service<S>,
     alloc: Global,
@@ -465,7 +465,7 @@ fn ordered<S: Alter>(
     }
 }
 
-/// The same, and tells of the service.
+/// Gives a service the arguments' command, keeps its event's line, and tells of the service.
 fn order_and_tell<S: Alter>(
     service: &mut Service<S>,
     alloc: Global,
@@ -485,7 +485,7 @@ fn order_and_tell<S: Alter>(
     tell_service(service, reply);
 }
 
-/// Gives the service a command, and answers what lies in the room then.
+/// Gives libjumbetai's service a command, and answers what lies in the room then.
 pub fn outbox_order(
     mut held: OutboxHeld,
     action: u32,
@@ -511,7 +511,7 @@ pub fn outbox_order(
     held
 }
 
-/// The line of the batch of the next rows after a number, or the status.
+/// The line of a batch of libjumbetai's next rows after a number, or the status.
 fn rows_line<S: Alter>(service: &mut Service<S>, alloc: Global, after: u64) -> Result<Answered, u32>
     ensures stays { IsSameService service.old service.new }
     ensures same { IsServiceReading (state S.Store service.old.conn) (state S.Store service.new.conn) }
@@ -528,7 +528,7 @@ fn rows_line<S: Alter>(service: &mut Service<S>, alloc: Global, after: u64) -> R
     }
 }
 
-/// Shows a service's next rows after a number: the text is their batch's line.
+/// Shows libjumbetai's next rows of a service after a number: the text is their batch's line.
 fn shown<S: Alter>(
     service: &mut Service<S>,
     alloc: Global,
@@ -550,7 +550,7 @@ fn shown<S: Alter>(
     }
 }
 
-/// The same, and tells of the service.
+/// Shows a service's next rows as libjumbetai's text, and tells of the service.
 fn show_and_tell<S: Alter>(
     service: &mut Service<S>,
     alloc: Global,
@@ -580,7 +580,7 @@ pub fn outbox_rows(mut held: OutboxHeld, after: u64, reply: &mut OutboxReply) ->
     held
 }
 
-/// Copies a piece of the answer's text, counted from 0; a piece behind the text's end has no bytes.
+/// Copies a piece of libjumbetai's outbox text, counted from 0; one behind its end has no bytes.
 pub fn outbox_read(held: OutboxHeld, piece: u32, out: &mut Piece) -> OutboxHeld
     ensures { HasReadOutbox piece held result out.old out.new }
 {
@@ -588,7 +588,7 @@ pub fn outbox_read(held: OutboxHeld, piece: u32, out: &mut Piece) -> OutboxHeld
     held
 }
 
-/// Copies the log into the file, and lets the service go.
+/// Copies the log into the file, and lets libjumbetai's service go.
 pub fn outbox_close(held: OutboxHeld)
     ensures { LetsGoOutbox held }
 {

@@ -76,13 +76,13 @@ impl<T: Drop> From<AllocFailed<T>> for TextFault {
 
     ghost from_gives = { λ _ fault. fault ≡ OutOfMemory };
 
-    /// Want of memory for a text of parts.
+    /// Want of memory for a text of parts that libjumbetai's caller gave.
     fn from(_refused: AllocFailed<T>) -> TextFault {
         TextFault::OutOfMemory
     }
 }
 
-/// Tells the part that a source falls to, of so many, or answers the status; it takes no memory.
+/// Tells libjumbetai's caller a source's part, of so many, or answers the status, without memory.
 pub fn source_part(source: &[u8], count: u64, place: &mut u64) -> u32
     ensures { TellsSourcePart source.now count result place.new }
 {
@@ -94,7 +94,7 @@ pub fn source_part(source: &[u8], count: u64, place: &mut u64) -> u32
     DONE
 }
 
-/// A line for each of so many parts, the batch of its events.
+/// A line of libjumbetai's text for each of so many parts, the batch of its events.
 fn part_lines(alloc: Global, events: Batch, count: u64) -> Result<Text, AllocError>
     requires { IsCountOfParts count }
     ensures { IfOk result (λ text. text ≡ part_lines count events) }
@@ -108,7 +108,7 @@ fn part_lines(alloc: Global, events: Batch, count: u64) -> Result<Text, AllocErr
     Ok(Text::from_string(lines))
 }
 
-/// The events that the bytes spell in so many parts, or the status.
+/// The events that the bytes spell in so many parts, or the status of libjumbetai's call.
 fn split_bytes(alloc: Global, bytes: &[u8], count: u64) -> Result<Answered, u32>
     ensures ok { IfOk result (λ m. IsSplit bytes.now count m.text m.listed) }
     ensures err { IfErr result (IsUnsplit bytes.now count) }
@@ -128,7 +128,7 @@ fn split_bytes(alloc: Global, bytes: &[u8], count: u64) -> Result<Answered, u32>
     }
 }
 
-/// Keeps the lines of the parts of the events that the bytes spell.
+/// Keeps as libjumbetai's text the lines of the parts of the events that the bytes spell.
 pub fn site_split(mut held: Held, bytes: &[u8], count: u64, reply: &mut Reply) -> Held
     ensures { Split bytes.now count held result reply.new }
 {
@@ -137,7 +137,7 @@ pub fn site_split(mut held: Held, bytes: &[u8], count: u64, reply: &mut Reply) -
     held
 }
 
-/// The texts that lie one behind the other in bytes, by how many bytes each has.
+/// The texts that lie one behind the other in the caller's bytes, by how many bytes each has.
 fn texts_in<'a>(alloc: Global, bytes: &'a [u8], lengths: &[u64]) -> Result<Vec<&'a str>, TextFault>
     ensures ok { IfOk result (λ texts. map (λ t. t.now) texts.items ≡ cut bytes.now lengths.now) }
     ensures fit { IfOk result (λ texts. sum lengths.now ≤ length bytes.now) }
@@ -161,7 +161,7 @@ fn texts_in<'a>(alloc: Global, bytes: &'a [u8], lengths: &[u64]) -> Result<Vec<&
     Ok(texts)
 }
 
-/// At most so many of the lengths.
+/// At most so many of the lengths of the texts that libjumbetai's caller gives.
 fn first_lengths<'a>(count: usize, lengths: &'a [u64]) -> &'a [u64]
     ensures { result.now ≡ take count lengths.now }
 {
@@ -171,7 +171,7 @@ fn first_lengths<'a>(count: usize, lengths: &'a [u64]) -> &'a [u64]
     &lengths[..count]
 }
 
-/// At most so many of the lengths, where no covers stand beside the answers.
+/// At most so many of the lengths of the caller's texts, where no covers stand beside the answers.
 fn lengths_of<'a>(query: Query, answers: usize, lengths: &'a [u64]) -> &'a [u64]
     ensures { result.now
         ≡ (if has_covers query then lengths.now else take answers lengths.now) }
@@ -182,7 +182,7 @@ fn lengths_of<'a>(query: Query, answers: usize, lengths: &'a [u64]) -> &'a [u64]
     first_lengths(answers, lengths)
 }
 
-/// The fault of a text that is none, where so many are answers.
+/// The fault of a text of libjumbetai's caller that is none, where so many are answers.
 fn no_text(query: Query, answers: u64, place: u64) -> CombineFault
     ensures { result ≡ no_text query answers place }
 {
@@ -194,7 +194,7 @@ fn no_text(query: Query, answers: u64, place: u64) -> CombineFault
     }
 }
 
-/// The answer of the whole from texts, of which so many are answers, and the others covers.
+/// The answer of the whole from a caller's texts, of which so many are answers, the others covers.
 fn combine_texts(
     alloc: Global,
     query: Query,
@@ -219,8 +219,8 @@ fn combine_texts(
     combine(alloc, query, answers, covers)
 }
 
-/// The answer of the whole from texts that lie in bytes, of which so many are answers, and the
-/// others covers.
+/// The answer of the whole from texts that lie in the caller's bytes, of which so many are answers,
+/// and the others covers.
 fn whole_of(
     alloc: Global,
     query: Query,
@@ -244,7 +244,7 @@ fn whole_of(
     }
 }
 
-/// The summary of the whole from texts that lie in bytes, of which so many are summaries.
+/// The summary of the whole from texts in the caller's bytes, of which so many are summaries.
 fn whole_summary(
     alloc: Global,
     answers: u64,
@@ -267,7 +267,7 @@ fn whole_summary(
     }
 }
 
-/// Sets what a reply tells of.
+/// Sets what a reply to libjumbetai's caller tells of parts.
 fn tell(status: u32, first: u64, second: u64, reply: &mut CombineReply)
     ensures status { reply.new.status ≡ status }
     ensures first { reply.new.first ≡ first }
@@ -278,7 +278,7 @@ fn tell(status: u32, first: u64, second: u64, reply: &mut CombineReply)
     reply.second = second;
 }
 
-/// Tells of a fault, and keeps the source that stands in two parts in place of the text.
+/// Tells the caller of a fault, and keeps the source that stands in two parts in place of the text.
 fn tell_fault(fault: CombineFault, text: &mut Text, reply: &mut CombineReply)
     ensures tells { TellsCombineFault fault reply.new }
     ensures text { text.new ≡ text_after text.old fault }
@@ -300,7 +300,7 @@ fn tell_fault(fault: CombineFault, text: &mut Text, reply: &mut CombineReply)
     }
 }
 
-/// Keeps the answer of the whole in place of the text, or tells why there is none.
+/// Keeps the answer of the whole in place of libjumbetai's text, or tells why there is none.
 fn tell_whole(made: Result<Text, CombineFault>, text: &mut Text, reply: &mut CombineReply)
     ensures ok { IfOk made (λ whole. TellsCombineStatus 0 reply.new × (text.new ≡ whole)) }
     ensures err { IfErr made (λ f. TellsCombineFault f reply.new × (text.new ≡ text_after text.old f)) }
@@ -314,7 +314,7 @@ fn tell_whole(made: Result<Text, CombineFault>, text: &mut Text, reply: &mut Com
     }
 }
 
-/// Answers a question over the whole in place of the text, or tells why there is no answer.
+/// Answers a question over the whole in place of libjumbetai's text, or tells why there is none.
 fn answer_whole(
     alloc: Global,
     text: &mut Text,
@@ -335,7 +335,7 @@ fn answer_whole(
     tell_whole(made, text, reply);
 }
 
-/// Answers with the summary of the whole in place of the text, or tells why there is none.
+/// Puts the summary of the whole in place of libjumbetai's text, or tells why there is none.
 fn answer_summary(
     alloc: Global,
     text: &mut Text,
@@ -355,8 +355,8 @@ fn answer_summary(
     tell_whole(made, text, reply);
 }
 
-/// Answers what a number stands for over the whole in place of the text, or tells why there is no
-/// answer.
+/// Answers what a number stands for over the whole in place of libjumbetai's text, or tells why
+/// there is no answer.
 fn answer_number(
     alloc: Global,
     text: &mut Text,

@@ -53,7 +53,7 @@ const MAX_PART: u64 = 2_000;
 /// The most pages of a part.
 const PART_PAGES: u64 = 20;
 
-/// Keeps the page of a site's events in the order in which they came, behind so many.
+/// Keeps libjumbetai's page of a site's events in the order in which they came, behind so many.
 pub(crate) fn show_arrivals(
     site: &Site,
     alloc: Global,
@@ -69,7 +69,7 @@ pub(crate) fn show_arrivals(
     keep(site, text, made, reply);
 }
 
-/// Lets the text of the last answer go.
+/// Lets the text of the last answer of libjumbetai's site go.
 pub(crate) fn release(site: &Site, alloc: Global, text: &mut Text, reply: &mut Reply)
     ensures { Released (record { site = site.now; text = text.old; alloc = alloc })
         (record { site = site.now; text = text.new; alloc = alloc }) reply.new }
@@ -82,7 +82,7 @@ pub(crate) fn release(site: &Site, alloc: Global, text: &mut Text, reply: &mut R
     keep(site, text, made, reply);
 }
 
-/// The name of a site's set.
+/// The name of the set of libjumbetai's site.
 fn name_of(site: &mut Site) -> Result<[u8; 32], AllocError>
     ensures same { site.new ≡ site.old }
     ensures ok { IfOk result (IsNameOf (set_of site.old)) }
@@ -91,7 +91,7 @@ fn name_of(site: &mut Site) -> Result<[u8; 32], AllocError>
     Ok(Sha256::digest(text.as_str()))
 }
 
-/// Tells the name of a site's set.
+/// Tells libjumbetai's caller the name of a site's set.
 pub(crate) fn tell_name(site: &mut Site, name: &mut Name)
     ensures same { site.new ≡ site.old }
     ensures tells { TellsName (set_of site.old) name.old name.new }
@@ -113,7 +113,7 @@ pub fn site_name(mut held: Held, name: &mut Name) -> Held
     held
 }
 
-/// How far two summaries are apart.
+/// How far two summaries are apart, for libjumbetai's caller.
 fn apart(own: &Summary, peer: &Summary) -> Result<Lag, AllocError>
     ensures { IfOk result (IsApart own.now peer.now) }
 {
@@ -125,7 +125,7 @@ fn apart(own: &Summary, peer: &Summary) -> Result<Lag, AllocError>
     })
 }
 
-/// How far a site and a peer are apart.
+/// How far libjumbetai's site and a peer are apart.
 fn lag_to(site: &mut Site, peer: &Summary) -> Result<Lag, AllocError>
     ensures same { site.new ≡ site.old }
     ensures ok { IfOk result (λ lag. (own : Sources) × Digests (set_of site.old) own
@@ -135,7 +135,7 @@ fn lag_to(site: &mut Site, peer: &Summary) -> Result<Lag, AllocError>
     apart(&own, peer)
 }
 
-/// How far a site and the peer of the bytes are apart, or the status.
+/// How far a site and the peer of the bytes are apart, or the status of libjumbetai's call.
 fn lag_of(alloc: Global, site: &mut Site, peer: &[u8]) -> Result<Lag, u32>
     ensures same { site.new ≡ site.old }
     ensures ok { IfOk result (IsLag peer.now (set_of site.old)) }
@@ -148,7 +148,7 @@ fn lag_of(alloc: Global, site: &mut Site, peer: &[u8]) -> Result<Lag, u32>
     }
 }
 
-/// A lag that tells why there is none.
+/// A lag in a reply of libjumbetai that tells why there is none.
 pub(crate) fn no_lag(status: u32) -> Lag
     ensures { result ≡ record { status = status; lacking = 0; ahead = 0; blocks = 0 } }
 {
@@ -160,7 +160,7 @@ pub(crate) fn no_lag(status: u32) -> Lag
     }
 }
 
-/// Tells how far a site and the peer of the bytes are apart.
+/// Tells libjumbetai's caller how far a site and the peer of the bytes are apart.
 pub(crate) fn compare(site: &mut Site, alloc: Global, peer: &[u8], lag: &mut Lag)
     ensures same { site.new ≡ site.old }
     ensures tells { TellsLag peer.now (set_of site.old) lag.new }
@@ -179,7 +179,7 @@ pub fn site_compare(mut held: Held, peer: &[u8], lag: &mut Lag) -> Held
     held
 }
 
-/// How many events a part has at most.
+/// How many events a part that libjumbetai's caller asks for has at most.
 fn part_limit(most: u64) -> u64
     ensures limit { result ≡ part_limit most }
     ensures high { result ≤ 2000 }
@@ -190,7 +190,7 @@ fn part_limit(most: u64) -> u64
     most.min(MAX_PART)
 }
 
-/// Moves the events of a page behind those of a part, and answers how many bytes their texts have.
+/// Moves a page's events behind those of libjumbetai's part, and answers how many bytes they have.
 fn append(part: &mut Batch, mut page: Batch) -> Result<u64, AllocError>
     ensures { IfOk result (λ bytes. (part.new ≡ part.old ++ page)
         × (bytes ≡ min (bytes_of page) u64.MAX)) }
@@ -205,15 +205,15 @@ fn append(part: &mut Batch, mut page: Batch) -> Result<u64, AllocError>
     Ok(bytes)
 }
 
-/// Whether so many bytes are as many as are asked for, where that isn't 0.
+/// Whether so many bytes are as many as libjumbetai's caller asks for, where that isn't 0.
 fn is_large(bytes: u64, size: u64) -> bool
     ensures { IsTrue result ↔ ((size ≢ 0) × (size ≤ bytes)) }
 {
     size > 0 && bytes >= size
 }
 
-/// The part from a place on of what a peer lacks: at most so many events, and the page with which
-/// their texts have so many bytes, where that isn't 0, is the last.
+/// The part from a place on of what a peer lacks, for a call: at most so many events, and the page
+/// with which their texts have so many bytes, where that isn't 0, is the last.
 fn part_of(
     alloc: Global,
     site: &mut Site,
@@ -249,7 +249,7 @@ fn part_of(
     Ok(part)
 }
 
-/// The line of the part of what a peer lacks, from a place on, or the status.
+/// The line of the part of what a peer lacks, from a place on, or the status of libjumbetai's call.
 fn part_at(
     alloc: Global,
     site: &mut Site,
@@ -268,7 +268,7 @@ fn part_at(
     page_line(alloc, part)
 }
 
-/// Keeps the part of what a peer lacks of a site, from a place on.
+/// Keeps as libjumbetai's text the part of what a peer lacks of a site, from a place on.
 pub(crate) fn show_part(
     site: &mut Site,
     alloc: Global,
@@ -312,7 +312,7 @@ pub fn site_part(
     held
 }
 
-/// A site in memory with the same events; one without events where memory runs out.
+/// The copy in memory of libjumbetai's site, with its events; without any where memory runs out.
 pub(crate) fn copy_of(site: &Site, alloc: Global) -> Site
     ensures { (result ≡ site.now) ⊎ ((result ≡ []) × (site.now ≢ [])) }
 {
@@ -322,7 +322,7 @@ pub(crate) fn copy_of(site: &Site, alloc: Global) -> Site
     }
 }
 
-/// The same of the site that lies in a room, with no text.
+/// The same copy of the site that lies in a room, with no text.
 pub fn site_copy(held: &mut Held) -> Held
     ensures { Copied held.old held.new result }
 {
@@ -333,7 +333,7 @@ pub fn site_copy(held: &mut Held) -> Held
     }
 }
 
-/// The events of a source and an id; none where either is no text.
+/// The events of a source and an id that a caller gives as bytes; none where either is no text.
 fn events_of_key(alloc: Global, site: &Site, source: &[u8], id: &[u8]) -> Result<Batch, AllocError>
     ensures ok { IfOk result (IsNamed source.now id.now (set_of site.now)) }
     ensures err { OnErr result (with_key source.now id.now (set_of site.now) ≢ []) }
@@ -347,7 +347,7 @@ fn events_of_key(alloc: Global, site: &Site, source: &[u8], id: &[u8]) -> Result
     site.get(source, id)
 }
 
-/// The lines of the events of a source and an id, or the status.
+/// The lines of the events of a source and an id, or the status of libjumbetai's call.
 fn found_at(alloc: Global, site: &Site, source: &[u8], id: &[u8]) -> Result<Answered, u32>
     ensures ok { IfOk result
         (λ m. IsFound source.now id.now (set_of site.now) m.text m.listed) }
@@ -363,7 +363,7 @@ fn found_at(alloc: Global, site: &Site, source: &[u8], id: &[u8]) -> Result<Answ
     }
 }
 
-/// Keeps the lines of the events of a source and an id.
+/// Keeps as libjumbetai's text the lines of the events of a source and an id.
 pub(crate) fn find(
     site: &Site,
     alloc: Global,
@@ -388,7 +388,7 @@ pub fn site_get(mut held: Held, source: &[u8], id: &[u8], reply: &mut Reply) -> 
     held
 }
 
-/// Tells what taking bytes would come to, and how many events they spell.
+/// Tells libjumbetai's caller what taking bytes would come to, and how many events they spell.
 pub fn bytes_test(alloc: Global, bytes: &[u8], reply: &mut Reply)
     ensures { Tested bytes.now reply.new }
 {

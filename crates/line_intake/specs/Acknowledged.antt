@@ -38,7 +38,7 @@ pub record TellsSome (old out out' : Option (List ℕ)) : Type 0 where
   pub told : AreTold old left tells text
   pub written : Appends out out' text
 
--- so they are but for the rest of the text, which couldn't be written
+-- the input's lines are acknowledged so but for the rest of the text, which couldn't be written
 pub record TellsPart (old out out' : Option (List ℕ)) : Type 0 where
   pub left : Option (List ℕ)
   pub tells : List Told
@@ -47,7 +47,7 @@ pub record TellsPart (old out out' : Option (List ℕ)) : Type 0 where
   pub rest : List ℕ
   pub written : Wrote out out' text rest
 
--- what is acknowledged where the stream ends for this fault
+-- what is acknowledged of the input's lines where the stream ends for this fault
 abbrev pub TellsUntil : FollowFault → Option (List ℕ) → Option (List ℕ) → Option (List ℕ) → Type 0
 TellsUntil (fault.Input why) old out out' = TellsSome old out out'
 TellsUntil (fault.Table why) old out out' = TellsSome old out out'

@@ -33,7 +33,7 @@ pub record AreLinesKept (lists : List (List EventValue)) (each : List ℕ) (old 
 
 -- why a turn stops, and what it leaves. The table refused it, for want of memory or by another
 -- refusal of the store: nothing was written, and the table is as it was, or, where memory for the
--- answers_text is wanted, has the events. Or a write failed: the events are in, and a front of the answers_text
+-- answers is wanted, has the events. Or a write failed: the events are in, and a front of the answers
 -- was written
 abbrev pub StopsTurn : FollowFault → List Told → List (List EventValue) → Database → State
     → Option (List ℕ) → Option (List ℕ) → Type 0
@@ -48,45 +48,45 @@ StopsTurn fault.Unwritten tells lists old new out out' = (each : List ℕ)
 
 -- ---- a stream, turn by turn
 
--- a turn: what is told of its lines, their events, and how many of each line's were new
+-- a turn of a `follow`: what is told of its lines, their events, how many of each line's were new
 pub record Turn : Type 0 where
   pub tells : List Told
   pub lists : List (List EventValue)
   pub each : List ℕ
 
--- where a stream stands: how many lines it has had, what is left of its input, and what was written
+-- where a `follow` stands: how many lines it has had, what is left of its input, what was written
 pub record StreamPlace : Type 0 where
   pub lines : ℕ
   pub left : Option (List ℕ)
   pub out : Option (List ℕ)
 
--- in a turn lines are taken from the input, and their answers_text are written, one for each
+-- in a turn lines are taken from the input, and their acknowledgements written, one for each
 pub record IsTurn (old : StreamPlace) (turn : Turn) (new : StreamPlace) : Type 0 where
   pub lines : IsGathered old.lines new.lines old.left new.left turn.tells turn.lists
   pub one_each : length turn.each ≡ length turn.lists
   pub answered : Appends old.out new.out (answers_text turn.tells turn.lists turn.each)
 
--- turns, one after the other
+-- turns of a `follow`, one after the other
 abbrev pub AreTurns : StreamPlace → List Turn → StreamPlace → Type 0
 AreTurns old [] new = old ≡ new
 AreTurns old (turn ∷ turns) new = (mid : StreamPlace) × IsTurn old turn mid × AreTurns mid turns new
 
--- turns kept these events behind those that were held: of each line so many were new
+-- turns of lines kept these events behind those that were held: of each line so many were new
 abbrev pub AreKept : List EventValue → List Turn → List EventValue → Type 0
 AreKept held [] events = events ≡ held
 AreKept held (turn ∷ turns) events = AreFreshEach held turn.lists turn.each
     × AreKept (append_new key_cmp held (joined turn.lists)) turns events
 
--- the database has what it had, and behind it the events of turns
+-- the database has what it had, and behind it the events of turns of lines
 abbrev pub KeepsTurns : List Turn → Database → Database → Type 0
 KeepsTurns turns old new = (held : List EventValue) → IsInbox old held
     → (events : List EventValue) × IsInbox new events × AreKept held turns events
 
--- how many lines were at fault
+-- how many lines of the turns were at fault
 abbrev pub faults_of : List Turn → ℕ
 faults_of turns = sum_by (λ t. faults_in t.tells) turns
 
--- the stream came to the end of its input: each turn was answered, so many lines were at fault, and
+-- a `follow` came to the end of its input: each turn was answered, so many lines were at fault, and
 -- the turns are kept as K says
 pub record IsFollowed (start : StreamPlace) (out : Option (List ℕ)) (faults : ℕ) (K : List Turn → Type 0)
     : Type 0 where
@@ -98,8 +98,8 @@ pub record IsFollowed (start : StreamPlace) (out : Option (List ℕ)) (faults : 
   pub kept : K turns
   pub faulty : faults ≡ faults_of turns
 
--- what a crash leaves behind turns that were answered and brought the database to this: just that;
--- where there were none, what was there before
+-- what a crash leaves behind turns of lines that were answered and brought the database to this:
+-- just that; where there were none, what was there before
 abbrev pub LeavesTurns : List Turn → (Trees → Type 0) → Database → Trees → Type 0
 LeavesTurns [] Was mid trees = Was trees
 LeavesTurns (turn ∷ turns) Was mid trees = trees ≡ mid.trees
@@ -118,9 +118,9 @@ StopsBehind why last Leaves mid new out = (lines : ℕ) × (left : Option (List 
     × (HasCleanDisk new → (trees : Trees) → new.may_leave trees
     → Leaves trees ⊎ MayTake (joined lists) mid trees)
 
--- it stopped before that: each turn before was answered, the database that these turns left is as K
--- says, and what came of the last lines that were read is told by the fault. Before the first turn a
--- crash left what Was says
+-- the stream of lines stopped before that: each turn before was answered, the database that these
+-- turns left is as K says, and what came of the last lines that were read is told by the fault.
+-- Before the first turn a crash left what Was says
 pub record StopsStream (start : StreamPlace) (Was : Trees → Type 0) (out : Option (List ℕ)) (new : State)
     (why : FollowFault) (K : List Turn → Database → Type 0) : Type 0 where
   pub turns : List Turn

@@ -24,14 +24,14 @@ AreJudged before ((b ∷ line) ∷ lines) (told ∷ tells) (L ∷ lists) =
     × AreJudged (suc before) lines tells lists
 AreJudged before _ _ _ = ⊥
 
--- the input lost these lines, one after the other
+-- the input lost these lines, one after the other, which a turn takes
 abbrev pub TakesLines : Option (List ℕ) → List (List ℕ) → Option (List ℕ) → Type 0
 TakesLines old [] new = Consumes old new []
 TakesLines old (line ∷ lines) new =
     (mid : Option (List ℕ)) × TakesLine old mid line × TakesLines mid lines new
 
--- so many lines were there before, so many are there now: the input lost those between, and they
--- are told so
+-- a turn's lines: so many were there before, so many are there now: the input lost those between,
+-- and they are told so
 pub record IsGathered (before now : ℕ) (old new : Option (List ℕ)) (tells : List Told)
     (lists : List (List EventValue)) : Type 0 where
   pub lines : List (List ℕ)
@@ -39,6 +39,6 @@ pub record IsGathered (before now : ℕ) (old new : Option (List ℕ)) (tells : 
   pub judged : AreJudged before lines tells lists
   pub count : now ≡ before + length lines
 
--- how many lines are at fault
+-- how many of the input's lines are at fault
 abbrev pub faults_in : List Told → ℕ
 faults_in tells = count_by (λ t. is_some t.fault) tells

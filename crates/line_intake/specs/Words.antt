@@ -27,11 +27,11 @@ name_of_event_fault fault.TooLarge = codes "TooLarge"
 name_of_event_fault fault.NoSequence = codes "NoSequence"
 name_of_event_fault fault.BadSequence = codes "BadSequence"
 
--- `event I: NAME`
+-- `event I: NAME`, as an acknowledgement says it of a line
 abbrev pub event_words : ℕ → Fault → List ℕ
 event_words index why = codes "event " ++ decimal index ++ codes ": " ++ name_of_event_fault why
 
--- what is said of bytes that spell no events with numbers
+-- what an acknowledgement or an error says of bytes that spell no events with numbers
 abbrev pub words_of : ReportFault → List ℕ
 words_of report.OutOfMemory = codes "out of memory"
 words_of (report.Read read.OutOfMemory) = codes "out of memory"

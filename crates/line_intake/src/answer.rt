@@ -15,7 +15,7 @@ pub struct Told {
     pub fault: Option<ReportFault>,
 }
 
-/// The acknowledgement of a line of which so many events were new, and so many there.
+/// `follow` acknowledges a line of which so many events were new, and so many there.
 fn kept_line(alloc: Global, line: u64, fresh: u64, repeated: u64) -> Result<String, AllocError>
     ensures { IfOk result (λ text. string_bytes text ≡ kept_line line fresh repeated) }
 {
@@ -23,7 +23,7 @@ fn kept_line(alloc: Global, line: u64, fresh: u64, repeated: u64) -> Result<Stri
     Ok(text)
 }
 
-/// The acknowledgement of a line at fault.
+/// The acknowledgement by `follow` of a line at fault.
 fn fault_line(alloc: Global, line: u64, fault: ReportFault) -> Result<String, AllocError>
     ensures { IfOk result (λ text. string_bytes text ≡ fault_line line fault) }
 {

@@ -62,7 +62,7 @@ impl Model for Pending {
 }
 
 impl Pending {
-    /// Nothing was read. It takes no memory.
+    /// Nothing of the input of lines was read. It takes no memory.
     pub fn empty(alloc: Global) -> Pending
         ensures { result ≡ [] }
     {
@@ -72,21 +72,21 @@ impl Pending {
         }
     }
 
-    /// Whether a line stands there to its LF, so that the next one is there without a read.
+    /// Whether a line of the input stands there to its LF, so the next comes without a read.
     pub fn has_line(&self) -> bool
         ensures { IsTrue result ↔ IsSome (position (λ b. b == 10) self.now) }
     {
         self.line_end().is_some()
     }
 
-    /// The bytes, lent.
+    /// The bytes of the input that were read and belong to no taken line yet, lent.
     fn rest(&self) -> &[u8]
         ensures { result.now ≡ self.now }
     {
         &self.bytes.as_slice()[self.from..]
     }
 
-    /// So many bytes from the front, lent.
+    /// So many bytes from the front of the input's read bytes, lent.
     fn front(&self, count: usize) -> &[u8]
         requires { count ≤ length self.now }
         ensures { result.now ≡ take count self.now }
@@ -94,14 +94,14 @@ impl Pending {
         &self.rest()[..count]
     }
 
-    /// The place of the first LF.
+    /// The place of the LF that ends the input's next line.
     fn line_end(&self) -> Option<usize>
         ensures { result ≡ position (λ b. b == 10) self.now }
     {
         self.rest().iter().position(|b| *b == b'\n')
     }
 
-    /// Takes so many bytes from the front.
+    /// Takes so many bytes from the front of the input's read bytes.
     fn pass(&mut self, count: usize)
         requires { count ≤ length self.old }
         ensures { self.new ≡ drop count self.old }
@@ -109,7 +109,7 @@ impl Pending {
         self.from = self.from + count;
     }
 
-    /// Takes all bytes, and reads anew; whether the input goes on.
+    /// Takes all read bytes of the input of lines, and reads anew; whether it goes on.
     fn refill<R: Read>(&mut self, reader: &mut R) -> Result<bool, LineFault>
         ensures { IfOk result (λ goes_on. EndsWith goes_on
             (prepend_known self.old (R.remaining reader.old))
@@ -128,7 +128,7 @@ impl Pending {
     }
 }
 
-/// Puts a part behind what is there of a line, unless the line is too long; whether it is.
+/// Puts a part behind what is there of an input's line, unless that is too long; whether it is.
 fn gain(line: &mut Vec<u8>, is_long: bool, part: &[u8]) -> Result<bool, AllocError>
     ensures { IfOk result (λ long. (bs : List ℕ) → IsPartOf line.old.items is_long bs
         → IsPartOf line.new.items long (bs ++ part.now)) }
@@ -174,7 +174,7 @@ pub fn next_line<R: Read>(
     Err(LineFault::CannotRead)
 }
 
-/// A line that came to its LF.
+/// A line of the input that came to its LF.
 fn ended(line: Vec<u8>, is_long: bool) -> Next
     ensures { result ≡ ended_of line.items is_long }
 {
@@ -184,7 +184,7 @@ fn ended(line: Vec<u8>, is_long: bool) -> Next
     Next::Line(Octets::from_vec(line))
 }
 
-/// What is left where the input ended.
+/// The line that is left where the input ended, if any.
 fn last(line: Vec<u8>, is_long: bool) -> Next
     ensures { result ≡ last_of line.items is_long }
 {

@@ -35,8 +35,8 @@ pub enum FollowFault {
     Unwritten,
 }
 
-/// Keeps the events of lines in a table, in one transaction, and answers the acknowledgements. Only
-/// where memory for these is wanted may the events be in without an answer.
+/// Keeps the events of an input's lines in a table, in one transaction, and answers the
+/// acknowledgements. Only where memory for these is wanted may the events be in without an answer.
 pub fn keep_lines<S: Alter>(
     alloc: Global,
     table: &mut Table<S>,
@@ -67,7 +67,7 @@ pub fn keep_lines<S: Alter>(
     }
 }
 
-/// Keeps the events of lines, and then acknowledges the lines, in one write.
+/// Keeps the events of lines, and then writes the lines' acknowledgements, in one write.
 pub fn acknowledge<S: Alter, W: Write>(
     alloc: Global,
     table: &mut Table<S>,

@@ -35,7 +35,7 @@ pub struct Gathered {
     text: u64,
 }
 
-/// Whether the line is empty.
+/// Whether a line of the input is empty, which gets no acknowledgement.
 fn is_blank(line: &Octets) -> bool
     ensures { IsTrue result ↔ (line.now ≡ []) }
 {
@@ -49,7 +49,7 @@ struct Judged {
     events: Batch,
 }
 
-/// What the bytes of a line come to.
+/// What the bytes of an input's line come to: its events, or its fault.
 fn judge(alloc: Global, line: Octets) -> Result<Judged, AllocError>
     ensures { IfOk result (λ j. IsJudged line j.fault j.events) }
 {
@@ -70,7 +70,7 @@ fn judge(alloc: Global, line: Octets) -> Result<Judged, AllocError>
     }
 }
 
-/// A line at fault.
+/// A line of the input at fault, to be acknowledged as such.
 fn refuse(alloc: Global, fault: ReportFault) -> Judged
     ensures fault { result.fault ≡ Some fault }
     ensures events { result.events ≡ [] }
@@ -82,7 +82,7 @@ fn refuse(alloc: Global, fault: ReportFault) -> Judged
 }
 
 impl Gathered {
-    /// No lines yet behind so many.
+    /// A turn without lines yet behind so many lines of the input.
     fn behind(alloc: Global, lines: u64) -> Gathered
         ensures tells { result.tells ≡ [] }
         ensures lists { result.lists ≡ [] }
@@ -97,7 +97,7 @@ impl Gathered {
         }
     }
 
-    /// How many of the lines are at fault.
+    /// How many of the turn's lines are at fault.
     pub fn faults(&self) -> u64
         ensures { result ≡ faults_in self.now.tells }
     {
@@ -108,12 +108,12 @@ impl Gathered {
             .count() as u64
     }
 
-    /// Whether the lines so far are enough for one transaction.
+    /// Whether the turn's lines so far are enough for one transaction.
     fn is_full(&self) -> bool {
         self.events >= ENOUGH_EVENTS || self.text >= ENOUGH_TEXT
     }
 
-    /// Adds a line that isn't empty.
+    /// Adds a line of the input that isn't empty to the turn.
     fn add(&mut self, judged: Judged) -> Result<(), AllocError>
         requires { self.old.lines + 1 < 2 ^ 64 }
         ensures tells { OnOk result (self.new.tells ≡ self.old.tells
@@ -132,7 +132,7 @@ impl Gathered {
         Ok(())
     }
 
-    /// Adds the line that came next, if one did. An empty one is only counted.
+    /// Adds the line that came next to the turn, if one did. An empty one is only counted.
     fn take(&mut self, alloc: Global, next: Next) -> Result<(), AllocError>
         requires { self.old.lines + 1 < 2 ^ 64 }
         ensures taken { OnOk result ((before : ℕ) (old mid new : Option (List ℕ))
@@ -201,7 +201,7 @@ pub fn gather<R: Read>(
     })
 }
 
-/// Whether the input is at its end.
+/// Whether the input of lines is at its end.
 fn is_end(next: &Next) -> bool
     ensures { IsTrue result → next.now ≡ Next.End }
 {

@@ -8,7 +8,7 @@ use event_files::ReportFault;
 use event_json::ReadFault;
 use std::alloc::{AllocError, Global};
 
-/// The name of a fault, as it is printed.
+/// The name of a fault, as acknowledgements of lines and other texts print it.
 pub fn fault_name<'a>(fault: Fault) -> &'a str
     ensures { result.now ≡ name_of_event_fault fault }
 {
@@ -34,7 +34,7 @@ pub fn fault_name<'a>(fault: Fault) -> &'a str
     }
 }
 
-/// `event I: NAME`.
+/// `event I: NAME`, as an acknowledgement tells it of a line.
 fn event_words(alloc: Global, index: u64, fault: Fault) -> Result<String, AllocError>
     ensures { IfOk result (λ words. string_bytes words ≡ event_words index fault) }
 {
@@ -43,7 +43,7 @@ fn event_words(alloc: Global, index: u64, fault: Fault) -> Result<String, AllocE
     Ok(words)
 }
 
-/// The words of the fault of a line, as of a file.
+/// The words of the fault of a line in its acknowledgement, as of a file.
 pub fn words_of(alloc: Global, fault: ReportFault) -> Result<String, AllocError>
     ensures { IfOk result (λ words. string_bytes words ≡ words_of fault) }
 {

@@ -10,7 +10,7 @@ use std::io::Write;
 #[derive(Clone, Copy, Debug, PartialEq, Eq)]
 pub struct Unwritten;
 
-/// Writes the bytes whole, or a front of them where the writing fails; no write is tried again.
+/// Writes the answers to lines whole, or a front of them where it fails; no write is tried again.
 pub fn put<W: Write>(to: &mut W, bytes: &[u8]) -> Result<(), Unwritten>
     ensures ok { OnOk result (Appends (W.contents to.old) (W.contents to.new) bytes.now) }
     ensures err { OnErr result ((rest : List ℕ)

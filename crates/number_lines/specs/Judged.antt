@@ -22,8 +22,8 @@ AreOwn aside [] [] = Unit {0}
 AreOwn aside (e ∷ given) (x ∷ events) = IsOwn aside e x × AreOwn aside given events
 AreOwn aside _ _ = ⊥
 
--- the events before the one at this place have no number or have it by the name, and the one there
--- has one, which can't go by it
+-- the line's events before the one at this place have no number or have it by the name, and the one
+-- there has one, which can't go by it
 pub record IsFirstNotAside (name : List ℕ) (given : List EventValue) (index : ℕ) : Type 0 where
   pub before : List EventValue
   pub own : AreOwn (Some name) (take index given) before
@@ -31,7 +31,7 @@ pub record IsFirstNotAside (name : List ℕ) (given : List EventValue) (index : 
   pub is : slice_get given index ≡ Some event
   pub has : attribute_of (codes "sequence") event ≢ None
 
--- the same where a name is given; no number goes by another name where none is
+-- an event's own number stops the line where it can't go by the given name; never where none is
 abbrev pub StopsAside : Option (List ℕ) → List EventValue → ℕ → Type 0
 StopsAside None given index = ⊥
 StopsAside (Some name) given index = IsFirstNotAside name given index
@@ -68,6 +68,6 @@ pub record IsGatheredToNumber (aside : Option (List ℕ)) (before now : ℕ) (ol
   pub judged : AreJudgedToNumber aside before lines tells lists
   pub count : now ≡ before + length lines
 
--- how many lines are refused
+-- how many lines to be numbered are refused
 abbrev pub refusals_in : List Told → ℕ
 refusals_in tells = count_by (λ t. is_some t.fault) tells

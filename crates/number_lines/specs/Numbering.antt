@@ -39,7 +39,7 @@ pub record NumbersTurn (base : ℕ) (tells : List Told) (lists : List (List Even
   pub written : Appends out out' (numbered_text tells answers)
   pub said : Appends err err' (fault_text tells)
 
--- they were numbered, and of both texts only fronts were written, perhaps
+-- events of lines were numbered, and of both texts only fronts were written, perhaps
 pub record NumbersUnwritten (base : ℕ) (tells : List Told) (lists : List (List EventValue))
     (old new : State) (was is : Option Counts) (out out' err err' : Option (List ℕ)) : Type 0 where
   pub answers : List (List EventValue)
@@ -49,8 +49,8 @@ pub record NumbersUnwritten (base : ℕ) (tells : List Told) (lists : List (List
   pub unsaid : List ℕ
   pub said : Wrote err err' (fault_text tells) unsaid
 
--- why a turn stops, and what it leaves. The numberer refused it: nothing was written, and nothing
--- was numbered; or, where memory for the texts is wanted, the events are. Or a write failed
+-- why a turn that numbers lines stops, and what it leaves. The numberer refused it: nothing was
+-- written or numbered; or, where memory for the texts is wanted, the events are. Or a write failed
 abbrev pub StopsNumbering : NumberingFault → ℕ → List Told → List (List EventValue) → State → State
     → Option Counts → Option Counts → Option (List ℕ) → Option (List ℕ) → Option (List ℕ)
     → Option (List ℕ) → Type 0
@@ -87,7 +87,7 @@ pub record NumbersSome (aside : Option (List ℕ))
   pub written : Appends out out' (numbered_text tells answers)
   pub said : Appends err err' (fault_text tells)
 
--- so they were but for the rests of the texts, which weren't written
+-- lines were numbered and answered but for the rests of the texts, which weren't written
 pub record NumbersRest (aside : Option (List ℕ))
     (N : List (List EventValue) → List (List EventValue) → Type 0)
     (input out out' err err' : Option (List ℕ)) : Type 0 where
@@ -112,7 +112,7 @@ pub record NumbersAll (aside : Option (List ℕ))
   pub said : Appends err err' (fault_text tells)
   pub faulty : faults ≡ refusals_in tells
 
--- what is numbered and answered where the stream ends for this fault
+-- what of the lines is numbered and answered where the stream ends for this fault
 abbrev pub NumbersUntil : Option (List ℕ)
     → (List (List EventValue) → List (List EventValue) → Type 0)
     → NumberingFault → Option (List ℕ) → Option (List ℕ) → Option (List ℕ) → Option (List ℕ)

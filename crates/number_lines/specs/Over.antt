@@ -57,8 +57,8 @@ pub record NumbersOver (aside : Option (List ℕ)) (base : ℕ) (input input' ou
   -- a crash leaves them
   pub settled : HasCleanDisk new → OnOk outcome (IsSettled new)
 
--- what is numbered and answered where it ends so, whatever the files held: the database wasn't
--- opened, and nothing is; or the stream stopped
+-- what of the lines is numbered and answered where it ends so, whatever the files held: the
+-- database wasn't opened, and nothing is; or the stream stopped
 abbrev pub EndsSome : Option (List ℕ) → NumberEnd → Option (List ℕ) → Option (List ℕ) → Option (List ℕ)
     → Option (List ℕ) → Option (List ℕ) → Type 0
 EndsSome aside (end.Database why) input out out' err err' =

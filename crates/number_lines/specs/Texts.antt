@@ -17,7 +17,7 @@ numbered_text (told ∷ tells) (answer ∷ answers) =
     line_text told.fault answer ++ numbered_text tells answers
 numbered_text _ _ = []
 
--- a line is refused
+-- the text of a line to be numbered that is refused
 abbrev pub refused_line_text : ℕ → LineRefusal → List ℕ
 refused_line_text line why = codes "{\"line\":" ++ decimal line ++ codes ",\"fault\":\"" ++ words_of_refusal why
     ++ codes "\"}" ++ 10 ∷ []

@@ -8,14 +8,14 @@ use Rattle.numbers.specs.declared.fault.NumberFault.TheVariants as number
 use Rattle.number_lines.specs.declared.refusal.LineRefusal.{LineRefusal}
 use Rattle.number_lines.specs.declared.refusal.LineRefusal.TheVariants as refusal
 
--- of an event that can't be numbered
+-- the words of an event of a line that can't be numbered
 abbrev pub number_words : NumberFault → List ℕ
 number_words number.OutOfMemory = codes "out of memory"
 number_words (number.HasSequence index) = codes "event " ++ decimal index ++ codes ": HasSequence"
 number_words (number.TooLarge index) = codes "event " ++ decimal index ++ codes ": TooLarge"
 number_words (number.Full index) = codes "event " ++ decimal index ++ codes ": Full"
 
--- of a line; where it spells no events, as of a file
+-- the words of a line's refusal to be numbered; where it spells no events, as of a file
 abbrev pub words_of_refusal : LineRefusal → List ℕ
 words_of_refusal (refusal.Read why) = line.words_of (report.Read why)
 words_of_refusal (refusal.Number why) = number_words why

@@ -37,9 +37,9 @@ pub enum NumberingFault {
     Unwritten,
 }
 
-/// Numbers the events of lines in one transaction, and then writes them with their numbers on `out`,
-/// in one write, and why lines are refused on `err`. Only where memory for these texts is wanted may
-/// the events have their numbers without an answer; given again they get the same.
+/// Numbers the events of gathered lines in one transaction, and then writes them with their numbers
+/// on `out`, in one write, and why lines are refused on `err`. Only where memory for these texts is
+/// wanted may events have their numbers without an answer; given again they get the same.
 pub fn number_gathered<S: Alter + Drop, W: Write, E: Write>(
     alloc: Global,
     numberer: &mut Numberer<S>,

@@ -9,7 +9,7 @@ use attributes::{Batch, List, Text};
 use event_json::write_sequenced;
 use std::alloc::{AllocError, Global};
 
-/// The batch of a line as a line; nothing of one that is refused.
+/// The batch of a line's events with their numbers as a line; nothing of one that is refused.
 fn line_text(
     alloc: Global,
     fault: Option<LineRefusal>,
@@ -25,7 +25,7 @@ fn line_text(
     Ok(line)
 }
 
-/// The lines of the events of lines with their numbers, one behind the other.
+/// The lines of the events of gathered lines with their numbers, one behind the other.
 pub fn numbered_text(
     alloc: Global,
     tells: &List<Told>,
@@ -42,7 +42,7 @@ pub fn numbered_text(
     Ok(Text::from_string(text))
 }
 
-/// The line that says why a line is refused.
+/// The line that says why a line of events without numbers is refused.
 fn fault_line(alloc: Global, line: u64, refusal: LineRefusal) -> Result<String, AllocError>
     ensures { IfOk result (λ text. string_bytes text ≡ refused_line_text line refusal) }
 {
@@ -51,7 +51,7 @@ fn fault_line(alloc: Global, line: u64, refusal: LineRefusal) -> Result<String, 
     Ok(text)
 }
 
-/// The line of a line that is refused; nothing of any other.
+/// The error line of a line to be numbered that is refused; nothing of any other.
 fn refusal_text(alloc: Global, told: Told) -> Result<String, AllocError>
     ensures { IfOk result (λ text. string_bytes text ≡ refusal_text told.line told.fault) }
 {
@@ -61,7 +61,7 @@ fn refusal_text(alloc: Global, told: Told) -> Result<String, AllocError>
     }
 }
 
-/// The lines of the lines that are refused, one behind the other.
+/// The error lines of the lines to be numbered that are refused, one behind the other.
 pub fn fault_text(alloc: Global, tells: &List<Told>) -> Result<Text, AllocError>
     ensures { IfOk result (λ text. text ≡ fault_text tells.now) }
 {

@@ -37,7 +37,7 @@ pub struct Gathered {
     text: u64,
 }
 
-/// Whether the line is empty.
+/// Whether the line to be numbered is empty.
 fn is_blank(line: &Octets) -> bool
     ensures { IsTrue result ↔ (line.now ≡ []) }
 {
@@ -58,7 +58,7 @@ enum Owned {
     Aside(u64),
 }
 
-/// The event as it is numbered, with its own `sequence`, where it has one, by the name.
+/// The event of a line as it is numbered, with its own `sequence`, where it has one, by the name.
 fn own(alloc: Global, event: &Event, name: &str) -> Result<Option<Event>, AllocError>
     ensures own { IfOk result (λ o. IfSome o (IsOwn (Some name.now) event.now)) }
     ensures has { IfOk result (λ o. IfNone o (attribute_of (codes "sequence") event.now ≢ None)) }
@@ -69,7 +69,7 @@ fn own(alloc: Global, event: &Event, name: &str) -> Result<Option<Event>, AllocE
     set_aside(alloc, event, name)
 }
 
-/// The events as they are numbered, each with its own `sequence`, where it has one, by the name.
+/// A line's events as they are numbered, each with its own `sequence`, if it has one, by the name.
 fn own_each(alloc: Global, given: &Events, name: &str) -> Result<Owned, AllocError>
     ensures { IfOk result (AreOwned (Some name.now) given.now) }
 {
@@ -83,7 +83,7 @@ fn own_each(alloc: Global, given: &Events, name: &str) -> Result<Owned, AllocErr
     Ok(Owned::Events(events))
 }
 
-/// The events as they are numbered.
+/// The events of a line as they are numbered.
 fn own_all(alloc: Global, given: Events, aside: &Option<Text>) -> Result<Owned, AllocError>
     ensures { IfOk result (AreOwned aside.now given) }
 {
@@ -93,7 +93,7 @@ fn own_all(alloc: Global, given: Events, aside: &Option<Text>) -> Result<Owned, 
     }
 }
 
-/// What the bytes of a line come to.
+/// What the bytes of a line to be numbered come to.
 fn judge(alloc: Global, line: &Octets, aside: &Option<Text>) -> Result<Judged, AllocError>
     ensures { IfOk result (λ j. IsJudgedToNumber aside.now line.now j.fault j.events) }
 {
@@ -128,7 +128,7 @@ pub fn refusal_of(
     Ok(judged.fault)
 }
 
-/// A line that is refused.
+/// A line to be numbered that is refused.
 fn refuse(alloc: Global, fault: LineRefusal) -> Judged
     ensures fault { result.fault ≡ Some fault }
     ensures events { result.events ≡ [] }
@@ -140,7 +140,7 @@ fn refuse(alloc: Global, fault: LineRefusal) -> Judged
 }
 
 impl Gathered {
-    /// No lines yet behind so many.
+    /// No lines to be numbered yet behind so many.
     fn behind(alloc: Global, lines: u64) -> Gathered
         ensures tells { result.tells ≡ [] }
         ensures lists { result.lists ≡ [] }
@@ -155,7 +155,7 @@ impl Gathered {
         }
     }
 
-    /// How many of the lines are refused.
+    /// How many of the gathered lines to be numbered are refused.
     pub fn faults(&self) -> u64
         ensures { result ≡ refusals_in self.now.tells }
     {
@@ -166,12 +166,12 @@ impl Gathered {
             .count() as u64
     }
 
-    /// Whether the lines so far are enough for one transaction.
+    /// Whether the lines so far are enough for numbering in one transaction.
     fn is_full(&self) -> bool {
         self.events >= ENOUGH_EVENTS || self.text >= ENOUGH_TEXT
     }
 
-    /// Adds a line that isn't empty.
+    /// Adds a line to be numbered that isn't empty.
     fn add(&mut self, judged: Judged) -> Result<(), AllocError>
         requires { self.old.lines + 1 < 2 ^ 64 }
         ensures tells { OnOk result (self.new.tells ≡ self.old.tells
@@ -190,7 +190,7 @@ impl Gathered {
         Ok(())
     }
 
-    /// Adds the line that came next, if one did. An empty one is only counted.
+    /// Adds the line to be numbered that came next, if one did. An empty one is only counted.
     fn take(&mut self, alloc: Global, next: Next, aside: &Option<Text>) -> Result<(), AllocError>
         requires { self.old.lines + 1 < 2 ^ 64 }
         ensures taken { OnOk result ((before : ℕ) (old mid new : Option (List ℕ))
@@ -224,9 +224,9 @@ pub struct Part {
     pub is_over: bool,
 }
 
-/// The next lines of an input, of which so many were there before: one, and those that stand whole
-/// in what was read, as many as are enough for one transaction. It waits for the first line alone.
-/// The number of an event that has one already is set aside under the name, where one is given.
+/// The next lines to number of an input, of which so many were before: one, and those that stand
+/// whole in what was read, as many as are enough for one transaction. It waits for the first line
+/// alone. The number of an event that has one is set aside under the name, if one is given.
 pub fn gather<R: Read>(
     alloc: Global,
     input: &mut R,
@@ -261,7 +261,7 @@ pub fn gather<R: Read>(
     })
 }
 
-/// Whether the input is at its end.
+/// Whether the input of lines to be numbered is at its end.
 fn is_end(next: &Next) -> bool
     ensures { IsTrue result → next.now ≡ Next.End }
 {

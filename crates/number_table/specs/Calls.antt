@@ -19,7 +19,7 @@ use Rattle.number_table.specs.Fault.{of_table}
 use Rattle.number_table.specs.declared.fault.NumbererFault.{NumbererFault}
 use Rattle.number_table.specs.declared.fault.NumbererFault.TheVariants.{Foreign, OutOfMemory}
 
--- what each source begins behind
+-- the number that a numberer begins each source behind
 abbrev pub from : ℕ → List ℕ → ℕ
 from base source = base
 
@@ -34,11 +34,11 @@ pub record StandsNumbered (base : ℕ) (events rows : List EventValue) (s : Stat
   pub counts : IfSome counted (IsCountOf (from base) events)
   pub table : HasCleanDisk s → IsTrue s.is_open → IsInbox s.now rows
 
--- the events of L, each with its number among all that were numbered then
+-- the numberer's answer: the events of L, each with its number among all that were numbered then
 abbrev pub AnswersNumbers : ℕ → List EventValue → List EventValue → List EventValue → Type 0
 AnswersNumbers base events L answers = HaveNumbers (number (from base) (taken events L)) L answers
 
--- what numbering the events of L does
+-- what numbering the events of L does to the numberer over a table
 pub record NumberEffect (base : ℕ) (L : List EventValue) (old new : State)
     (was is : Option Counts) (result : Result (List EventValue) NumbererFault) : Type 0 where
   -- each event is answered with its number: the one that its text had, else its source's next; and
@@ -50,15 +50,15 @@ pub record NumberEffect (base : ℕ) (L : List EventValue) (old new : State)
   pub refused : (events rows : List EventValue) → StandsNumbered base events rows old was
       → OnErr result (StandsNumbered base events rows new is)
 
--- and what that leaves in the database, while the disk gives back what was written
+-- what numbering leaves in the database of a numberer, while the disk gives back what was written
 pub record LeavesNumbers {T : Type 0} (old new : State) (result : Result T NumbererFault)
     : Type 0 where
   pub stays_open : OnOk result (IsTrue new.is_open)
   pub settled : OnOk result (IsSettled new)
   pub same : IsTrue new.is_open → OnErr result (new.now ≡ old.now)
 
--- these are the trees of a database that has taken the events of L with their numbers, whatever was
--- numbered before
+-- these are the trees of a numberer's database that has taken the events of L with their numbers,
+-- whatever was numbered before
 pub record MayNumber (base : ℕ) (L : List EventValue) (was : Option Counts) (old : Database)
     (trees : Trees) : Type 0 where
   pub answers : List EventValue
@@ -66,13 +66,13 @@ pub record MayNumber (base : ℕ) (L : List EventValue) (was : Option Counts) (o
       → AnswersNumbers base events L answers
   pub takes : MayTake answers old trees
 
--- no numberer with this base leaves these rows
+-- no numberer with this base leaves these rows in its table
 abbrev pub NoneLeaves : ℕ → List EventValue → Type 0
 NoneLeaves base rows = (events : List EventValue) → AreBare events → IsEachOnce events
     → HaveNumbers (number (from base) events) events rows → ⊥
 
--- an opening is refused for this fault: as that of the table is; or the table was opened, and isn't
--- a numberer's, or memory ran out while it was counted. Then it has the rows that it had
+-- a numberer's opening is refused for this fault: as that of the table is; or this was opened, and
+-- isn't a numberer's, or memory ran out while it was counted. Then it has the rows that it had
 abbrev pub RejectsNumbers : State → State → NumbererFault → Type 0
 RejectsNumbers old new fault =
     ((given : TableFault) × (fault ≡ of_table given) × RejectsOpening old new given)

@@ -13,7 +13,7 @@ use Rattle.numbers.specs.Numberer.{number, taken}
 use Rattle.number_table.specs.Calls.{StandsNumbered, from}
 use Rattle.number_table.specs.declared.fault.NumbererFault.{NumbererFault}
 
--- the events of each list, with their numbers among all that were numbered by then
+-- the numberer's answer: the events of each list, with numbers among all that were numbered by then
 abbrev pub AnswersEach : (List ℕ → ℕ) → List EventValue → List (List EventValue)
     → List (List EventValue) → Type 0
 AnswersEach base events [] [] = Unit {0}
@@ -21,13 +21,13 @@ AnswersEach base events (L ∷ lists) (M ∷ answers) =
     HaveNumbers (number base (taken events L)) L M × AnswersEach base (taken events L) lists answers
 AnswersEach base events _ _ = ⊥
 
--- of each list the events with some numbers
+-- a numberer's answer to lists: of each the events with some numbers
 abbrev pub AreNumberedEach : List (List EventValue) → List (List EventValue) → Type 0
 AreNumberedEach [] [] = Unit {0}
 AreNumberedEach (L ∷ lists) (M ∷ answers) = AreEachNumbered L M × AreNumberedEach lists answers
 AreNumberedEach _ _ = ⊥
 
--- what numbering the events of these lists does
+-- what numbering the events of these lists does to the numberer over a table
 pub record NumberEachEffect (base : ℕ) (lists : List (List EventValue)) (old new : State)
     (was is : Option Counts) (result : Result (List (List EventValue)) NumbererFault) : Type 0 where
   -- each event is answered with its number, one list after the other; and the table has the new
@@ -39,8 +39,8 @@ pub record NumberEachEffect (base : ℕ) (lists : List (List EventValue)) (old n
   pub refused : (events rows : List EventValue) → StandsNumbered base events rows old was
       → OnErr result (StandsNumbered base events rows new is)
 
--- these are the trees of a database that has taken the events of the lists with their numbers,
--- whatever was numbered before
+-- these are the trees of a numberer's database that has taken the events of the lists with their
+-- numbers, whatever was numbered before
 pub record MayNumberEach (base : ℕ) (lists : List (List EventValue)) (was : Option Counts)
     (old : Database) (trees : Trees) : Type 0 where
   pub answers : List (List EventValue)

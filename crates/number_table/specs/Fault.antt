@@ -6,14 +6,14 @@ use Rattle.numbers.specs.declared.fault.NumberFault.TheVariants as numbers
 use Rattle.number_table.specs.declared.fault.NumbererFault.{NumbererFault}
 use Rattle.number_table.specs.declared.fault.NumbererFault.TheVariants.{OutOfMemory, HasSequence, TooLarge, Full, Store, Foreign}
 
--- a refusal of events
+-- a numberer's refusal of events
 abbrev pub of_numbers : NumberFault → NumbererFault
 of_numbers numbers.OutOfMemory = OutOfMemory
 of_numbers (numbers.HasSequence i) = HasSequence i
 of_numbers (numbers.TooLarge i) = TooLarge i
 of_numbers (numbers.Full i) = Full i
 
--- a refusal of the table
+-- a numberer's refusal that is one of its table
 abbrev pub of_table : TableFault → NumbererFault
 of_table table.OutOfMemory = OutOfMemory
 of_table table.Store = Store

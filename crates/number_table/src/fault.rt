@@ -32,7 +32,7 @@ pub enum NumbererFault {
 impl From<NumberFault> for NumbererFault {
     ghost from_gives = { λ given f. f ≡ of_numbers given };
 
-    /// The refusal of events.
+    /// The refusal of events by a numberer over a table.
     fn from(fault: NumberFault) -> NumbererFault {
         match fault {
             NumberFault::OutOfMemory => NumbererFault::OutOfMemory,
@@ -46,7 +46,7 @@ impl From<NumberFault> for NumbererFault {
 impl From<TableFault> for NumbererFault {
     ghost from_gives = { λ given f. f ≡ of_table given };
 
-    /// The refusal of the table.
+    /// The refusal of a numberer's table.
     fn from(fault: TableFault) -> NumbererFault {
         match fault {
             TableFault::OutOfMemory => NumbererFault::OutOfMemory,

@@ -14,8 +14,8 @@ use attributes::{Batch, Events, List};
 use numbers::{Counted, NumberFault, number_all};
 use std::alloc::Global;
 
-/// The events of each list with their numbers, in their order. Where it is refused, some of the
-/// events may be counted.
+/// The events of each list with a numberer's numbers, in their order. Where it is refused, some of
+/// the events may be counted.
 pub(crate) fn number_lists(
     alloc: Global,
     counted: &mut Counted,

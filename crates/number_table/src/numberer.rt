@@ -164,7 +164,7 @@ impl<S: Alter + Drop> Numberer<S> {
     }
 }
 
-/// The refusal of the table.
+/// The refusal of a numberer's opening that is one of the table.
 fn not_made<S: Alter>(refused: NotMade<S>) -> NotOpened<S>
     ensures conn { result.conn ≡ refused.conn }
     ensures fault { result.fault ≡ of_table refused.fault }

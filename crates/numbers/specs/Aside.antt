@@ -7,7 +7,7 @@ use Rattle.serde_json.specs.Find.{get_member}
 use Rattle.serde_json.specs.Written.{compact_text}
 use Rattle.attributes.specs.Event.{EventValue, members_of, text}
 
--- the members without the first of this name
+-- an event's members without the first of this name, for its `sequence` renamed
 abbrev pub without : List ℕ → Members → Members
 without k no_members = no_members
 without k (member l d ms) =
@@ -20,7 +20,7 @@ pub record IsRenamed (name : List ℕ) (old new : Members) : Type 0 where
   pub free : get_member name (without (codes "sequence") old) ≡ None
   pub is : new ≡ put name value (without (codes "sequence") old)
 
--- the event's JSON object is that of the other with its member `sequence` by this name
+-- the event's JSON object is a numbered event's with its member `sequence` by this name
 pub record IsAside (name : List ℕ) (e found : EventValue) : Type 0 where
   pub members : Members
   pub renamed : IsRenamed name (members_of e) members

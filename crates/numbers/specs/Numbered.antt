@@ -11,51 +11,51 @@ use Rattle.attributes.specs.Sequence.{number_of, sequence_of}
 use Rattle.attributes.specs.declared.scalar.Scalar.TheVariants as scalar
 use Rattle.attributes.specs.declared.scalar.Given.TheVariants as given
 
--- the event with this text as its `sequence`
+-- the event, given this text as its `sequence`
 abbrev pub with_sequence : List ℕ → EventValue → EventValue
 with_sequence t e = record e { attributes = with_value (codes "sequence") (scalar.Words t) e.attributes }
 
--- the parts with this text as their `sequence`, as `Parts::set` puts it in
+-- the event's parts, given this text as their `sequence`, as `Parts::set` puts it in
 abbrev pub offer_with : List ℕ → OfferValue → OfferValue
 offer_with t p = record p { members = with_value (codes "sequence") (given.Words t) p.members }
 
--- the event has no attribute `sequence`
+-- the event to be numbered has no attribute `sequence`
 abbrev pub HasNone : EventValue → Type 0
 HasNone e = attribute_of (codes "sequence") e ≡ None
 
--- the event without its `sequence`
+-- the numbered event without its `sequence`
 abbrev pub without_sequence : EventValue → EventValue
 without_sequence e = record e { attributes = filter (λ a. not (bytes_eq (codes "sequence") a.0)) e.attributes }
 
--- an event that has no number, and room for one
+-- an event that can be numbered: it has no number, and room for one
 pub record IsBare (e : EventValue) : Type 0 where
   pub event : IsEvent e
   pub none : HasNone e
   pub fits : length (text e) + 34 ≤ max_text
 
--- each is one
+-- each of the events can be numbered: it has no number, and room for one
 abbrev pub AreBare : List EventValue → Type 0
 AreBare es = AllByRecursion IsBare es
 
--- x is the event e with the number n, as twenty digits
+-- x is the event e given the number n, as twenty digits
 pub record HasNumber (n : ℕ) (e x : EventValue) : Type 0 where
   pub digits : List ℕ
   pub number : sequence_of digits ≡ Some n
   pub is : x ≡ with_sequence digits e
 
--- each event of the second list is that of the first with its number
+-- each event of the second list is that of the first given its number
 abbrev pub HaveNumbers : (EventValue → ℕ) → List EventValue → List EventValue → Type 0
 HaveNumbers n [] [] = ⊤
 HaveNumbers n (e ∷ es) (x ∷ xs) = HasNumber (n e) e x × HaveNumbers n es xs
 HaveNumbers n _ _ = ⊥
 
--- each event of the second list is that of the first with some number
+-- each event of the second list is that of the first given some number
 abbrev pub AreEachNumbered : List EventValue → List EventValue → Type 0
 AreEachNumbered [] [] = ⊤
 AreEachNumbered (e ∷ es) (x ∷ xs) = ((n : ℕ) × HasNumber n e x) × AreEachNumbered es xs
 AreEachNumbered _ _ = ⊥
 
--- what an event with its number is: that number, and all else as it was
+-- what an event given its number is: that number, and all else as it was
 pub record NumberedEvents : Type 0 where
   pub number : (e : EventValue) (t : List ℕ) (n : ℕ) → sequence_of t ≡ Some n
       → number_of (with_sequence t e) ≡ Some n
@@ -70,7 +70,7 @@ pub record NumberedEvents : Type 0 where
   -- a number has one text
   pub one_text : (t u : List ℕ) (n : ℕ) → sequence_of t ≡ Some n → sequence_of u ≡ Some n → t ≡ u
 
--- what building an event with its number of parts gives: the event with it, unless it is too large
+-- building an event's parts with the given number: the event with it, unless it is too large
 pub record NumberedParts : Type 0 where
   pub event : (e : EventValue) (t : List ℕ) → IsEvent e
       → event_of (offer_with t (parts_of e)) ≡ with_sequence t e
@@ -79,7 +79,7 @@ pub record NumberedParts : Type 0 where
       (payload_fault (offer_with t (parts_of e)).offered) ≡ None
   pub in_order : (e : EventValue) (t : List ℕ) → IsEvent e → AreNamesInOrder (with_sequence t e).attributes
 
--- its text is 34 bytes longer: ,"sequence":"00000000000000000001"
+-- a text given its number is 34 bytes longer: ,"sequence":"00000000000000000001"
 abbrev pub IsLonger : Type 0
 IsLonger = (e : EventValue) (t : List ℕ) (n : ℕ) → IsEvent e → HasNone e → sequence_of t ≡ Some n
     → length (text (with_sequence t e)) ≡ length (text e) + 34
@@ -96,7 +96,7 @@ pub record NumberedFits : Type 0 where
       → length (text e) + 34 ≤ max_text → IsUtf8 (text (with_sequence t e))
       → IsEvent (with_sequence t e)
 
--- its JSON object is that of the event with one member put to it
+-- the JSON object of an event given its number is that of the event with one member put to it
 abbrev pub NumberedMembers : Type 0
 NumberedMembers = (e : EventValue) (t : List ℕ) → IsEvent e
     → members_of (with_sequence t e) ≡ put (codes "sequence") (string t) (members_of e)

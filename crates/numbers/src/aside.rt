@@ -14,8 +14,8 @@ use event_json::{ReadFault, read_events};
 use serde_json::{Map, Value};
 use std::alloc::{AllocError, Global};
 
-/// The members with `sequence` by that name; none where there is no `sequence`, or the name is
-/// another member's.
+/// An event's members with the `sequence` by that name; none where it has no `sequence`, or the
+/// name is another member's.
 fn renamed(
     alloc: Global,
     members: Map<String, Value>,
@@ -36,7 +36,7 @@ fn renamed(
     Ok(Some(members))
 }
 
-/// The text of the event's object with its `sequence` by that name.
+/// The text of the numbered event's object with its `sequence` by that name.
 fn aside_text(alloc: Global, event: &Event, name: &str) -> Result<Option<String>, AllocError>
     ensures event { IsEvent event.now }
     ensures text { IfOk result (λ o. IfSome o (λ s. (ms : Members)

@@ -13,7 +13,7 @@ use attributes::{Event, Events};
 /// event's.
 pub const MAX_BARE_TEXT: u64 = 262_110;
 
-/// Why the event, at the index, can't be numbered.
+/// Why the event, at the index of a batch, can't be numbered.
 pub(crate) fn refusal_at(index: u64, event: &Event) -> Option<NumberFault>
     ensures value { result ≡ refusal_at index event.now }
     ensures event { IfNone result (IsEvent event.now) }
@@ -28,7 +28,7 @@ pub(crate) fn refusal_at(index: u64, event: &Event) -> Option<NumberFault>
     None
 }
 
-/// The first event's refusal, where one can't be numbered. Time in proportion to their names.
+/// The refusal of the first event that a numberer can't take. Time in proportion to their names.
 pub fn refusal(events: &Events) -> Option<NumberFault>
     ensures first { result ≡ refusal_from 0 events.now }
     ensures bare { IfNone result (AreBare events.now) }

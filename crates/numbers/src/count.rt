@@ -14,7 +14,7 @@ use crate::event::bare;
 use attributes::{Batch, Event, Sequence, Sequenced};
 use std::alloc::{AllocError, Global};
 
-/// Counts the event, where its text has no number yet and this is its source's next one.
+/// Counts the event in the numberer, where its text has no number and this is its source's next.
 fn count(counted: &mut Counted, event: &Event, own: Sequence) -> Result<bool, AllocError>
     ensures next { IfOk result (λ is_next. IsTrue is_next → (base : List ℕ → ℕ)
         (A : List EventValue) → IsCountOf base A counted.old
@@ -39,7 +39,7 @@ fn count(counted: &mut Counted, event: &Event, own: Sequence) -> Result<bool, Al
     Ok(true)
 }
 
-/// Counts the event of a row, where it is one without number that has its source's next.
+/// Counts the event of a numberer's row, where it is without number and has its source's next.
 fn count_row(alloc: Global, counted: &mut Counted, row: &Sequenced) -> Result<bool, AllocError>
     ensures event { IsEvent row.now }
     ensures counts { IfOk result (λ is_next. IsTrue is_next → (e : EventValue) × (n : ℕ) × IsBare e

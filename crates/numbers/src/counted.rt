@@ -34,14 +34,14 @@ impl Model for Counted {
     } };
 }
 
-/// The number at a name.
+/// The number that a numberer has for a name (a text or source).
 fn at(numbers: &BTreeMap<String, Sequence>, name: &str) -> Option<Sequence>
     ensures { result ≡ value_at name.now (named numbers.now.entries) }
 {
     numbers.get(name).copied()
 }
 
-/// Puts the number at a name, in place of the one that is there.
+/// Puts the numberer's number at a name, in place of the one that is there.
 fn put(
     alloc: Global,
     numbers: &mut BTreeMap<String, Sequence>,
@@ -57,7 +57,7 @@ fn put(
 }
 
 impl Counted {
-    /// That of no events. It takes no memory.
+    /// A numberer's counts of no events. They take no memory.
     pub fn empty(alloc: Global, base: u64) -> Counted
         ensures { result ≡ record { numbers = []; last = []; base = base } }
     {
@@ -69,14 +69,14 @@ impl Counted {
         }
     }
 
-    /// The number of this text, where it has one. Time logarithmic in the texts.
+    /// The number that the numberer gave this text, if any. Time logarithmic in the texts.
     pub fn number_of(&self, text: &str) -> Option<Sequence>
         ensures { result ≡ value_at text.now self.now.numbers }
     {
         at(&self.numbers, text)
     }
 
-    /// The last number of the source, or else that behind which it begins.
+    /// The last number that the source was given, or else that behind which it begins.
     pub fn last_of(&self, source: &str) -> u64
         ensures { result ≡ unwrap_or (value_at source.now self.now.last) self.now.base }
     {
@@ -86,7 +86,7 @@ impl Counted {
         }
     }
 
-    /// The next number of the source, unless that is above [`MAX_SEQUENCE`].
+    /// The next number to be given to the source, unless that is above [`MAX_SEQUENCE`].
     pub fn next_of(&self, source: &str) -> Option<Sequence>
         ensures { MatchOption result (max_sequence < next self.now source.now)
             (λ n. n ≡ next self.now source.now) }
@@ -98,8 +98,8 @@ impl Counted {
         Sequence::of_u64(last + 1)
     }
 
-    /// Counts one event more, which has this text and its source's next number. Where memory is
-    /// refused half of it may be counted.
+    /// Counts one event more for the numberer, which has this text and its source's next number.
+    /// Where memory is refused half of it may be counted.
     pub fn add(&mut self, text: &str, source: &str, number: Sequence) -> Result<(), AllocError>
         requires { number ≡ next self.old source.now }
         ensures { OnOk result (self.new ≡ counted self.old text.now source.now) }

@@ -18,7 +18,7 @@ use serde_json::{Map, Value};
 use std::alloc::{AllocError, Global};
 use std::cmp::Ordering;
 
-/// The members of a value, where it is an object.
+/// The members of a JSON value, where it is an object, for an event to be numbered.
 fn members_in(value: Value) -> Option<Map<String, Value>>
     ensures { IfSome result (λ m. view value ≡ object (members_view m.entries)) }
 {
@@ -28,7 +28,7 @@ fn members_in(value: Value) -> Option<Map<String, Value>>
     }
 }
 
-/// The JSON object of the event.
+/// The JSON object of the event to be numbered.
 pub(crate) fn members_of(alloc: Global, event: &Event) -> Result<Map<String, Value>, AllocError>
     ensures members { IfOk result (λ m. members_view m.entries ≡ members_of event.now) }
     ensures event { IsEvent event.now }
@@ -43,7 +43,7 @@ pub(crate) fn members_of(alloc: Global, event: &Event) -> Result<Map<String, Val
     }
 }
 
-/// The members with the digits of the number as `sequence`.
+/// The event's members with the digits of its new number as `sequence`.
 fn put_number(
     alloc: Global,
     members: &mut Map<String, Value>,
@@ -59,7 +59,7 @@ fn put_number(
     Ok(())
 }
 
-/// The text of the event with its number.
+/// The text of an event that the numberer gives its number.
 fn numbered_text(alloc: Global, event: &Event, number: Sequence) -> Result<String, AllocError>
     ensures { IfOk result (λ s. (t : List ℕ) × (sequence_of t ≡ Some number)
         × (string_bytes s ≡ text (with_sequence t event.now))) }
@@ -69,7 +69,7 @@ fn numbered_text(alloc: Global, event: &Event, number: Sequence) -> Result<Strin
     Value::Object(members).to_string(alloc)
 }
 
-/// The one event of a list.
+/// The one event of a list that was read again to change its number.
 pub(crate) fn single(events: Events) -> Option<Event>
     ensures some { IfSome result (λ e. events ≡ e ∷ []) }
     ensures none { IfNone result ((e : EventValue) → events ≢ e ∷ []) }
@@ -104,7 +104,7 @@ pub fn numbered(alloc: Global, event: &Event, number: Sequence) -> Result<Sequen
     }
 }
 
-/// The text of the event without its number.
+/// The text of a numbered event without its number.
 fn bare_text(alloc: Global, event: &Event) -> Result<String, AllocError>
     ensures text { IfOk result (λ s.
         string_bytes s ≡ compact_text (object (without (codes "sequence") (members_of event.now)))) }

@@ -24,7 +24,7 @@ pub enum NumberFault {
 impl From<AllocError> for NumberFault {
     ghost from_gives = { λ _ f. f ≡ OutOfMemory };
 
-    /// Want of memory.
+    /// Want of memory while events are numbered.
     fn from(_refused: AllocError) -> NumberFault {
         NumberFault::OutOfMemory
     }
@@ -33,7 +33,7 @@ impl From<AllocError> for NumberFault {
 impl<T: Drop> From<AllocFailed<T>> for NumberFault {
     ghost from_gives = { λ _ f. f ≡ OutOfMemory };
 
-    /// Want of memory, whatever was to be kept.
+    /// Want of memory while events are numbered, whatever was to be kept.
     fn from(_refused: AllocFailed<T>) -> NumberFault {
         NumberFault::OutOfMemory
     }

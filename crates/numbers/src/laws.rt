@@ -8,32 +8,32 @@ pub fn numbers_have_no_gap()
     ensures { NumbersHaveNoGap }
 {}
 
-/// Two events of one source have two numbers, and an event that ties with one has its number.
+/// Two events of one source are given two numbers, and one that ties with another has its number.
 pub fn numbers_tell()
     ensures { NumbersTell }
 {}
 
-/// What was answered once is answered again, whatever was taken meanwhile.
+/// What a numberer answered once is answered again, whatever was taken meanwhile.
 pub fn answers_stay()
     ensures { AnswersStay }
 {}
 
-/// Two batches one after the other are answered as the batch of both.
+/// Two batches to be numbered, one after the other, are answered as the batch of both.
 pub fn batches_join()
     ensures { BatchesJoin }
 {}
 
-/// An event with its number has that number, and all else as it was; no two become one.
+/// An event given its number has that number, and all else as it was; no two become one.
 pub fn numbered_events()
     ensures { NumberedEvents }
 {}
 
-/// Building the parts of an event with its number gives just that, unless it is too large.
+/// Building an event's parts with its given number gives just that, unless it is too large.
 pub fn numbered_parts()
     ensures { NumberedParts }
 {}
 
-/// The text of an event with its number is 34 bytes longer than without.
+/// The text of an event given its number is 34 bytes longer than without.
 pub fn numbered_is_longer()
     ensures { IsLonger }
 {}
@@ -43,12 +43,12 @@ pub fn numbered_fits()
     ensures { NumberedFits }
 {}
 
-/// Other sources tell in no number.
+/// Other sources tell in no number that a numberer gives.
 pub fn own_source_tells()
     ensures { OwnSource }
 {}
 
-/// The JSON object of an event with its number is that of the event with one member put to it.
+/// The JSON object of an event given its number is that of the event with one member put to it.
 pub fn numbered_members()
     ensures { NumberedMembers }
 {}

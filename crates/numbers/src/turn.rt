@@ -16,8 +16,8 @@ use crate::fault::NumberFault;
 use attributes::{Batch, Event, Events, Sequence};
 use std::alloc::Global;
 
-/// The number of the event, at the index: the one that its text has, else its source's next, which
-/// is counted then.
+/// The number given to the event, at the index: the one that its text has, else its source's next,
+/// which is counted then.
 fn number_of(counted: &mut Counted, index: u64, event: &Event) -> Result<Sequence, NumberFault>
     ensures counts { IfOk result (λ n. (base : List ℕ → ℕ) (A : List EventValue)
         → IsCountOf base A counted.old → (n ≡ number base (taken A (event.now ∷ [])) event.now)

@@ -17,26 +17,26 @@ use Rattle.outbox.specs.declared.status.Status.{Status}
 use Rattle.outbox.specs.declared.fault.OutboxFault.{OutboxFault}
 pub use Rattle.database_layout.specs.States.{IsAsItWas, IsSettled}
 
--- a service with this source and base accepted the command: nothing refused it, it is now the last
--- one, and the event is that of its row
+-- a service with this source and base accepted the command on an order: nothing refused it, it is
+-- now the outbox's last one, and the event is that of its row
 abbrev pub Accepts : List ℕ → ℕ → Accepted → Database → Database → EventValue → Type 0
 Accepts source base c old new e = (commands : List Accepted) → IsService old source base commands
     → (refusal base commands c.status c.order ≡ None)
     × IsService new source base (commands ++ c ∷ [])
     × (e ≡ row_event source (suc (base + length commands)) c)
 
--- a service with this source and base refuses the command for this fault
+-- an outbox's service with this source and base refuses the command for this fault
 abbrev pub RefusesCommand : List ℕ → ℕ → Status → ℕ → Database → OutboxFault → Type 0
 RefusesCommand source base status order db f = (commands : List Accepted)
     → IsService db source base commands → refusal base commands status order ≡ Some f
 
--- these are the rows after a number, of a service with this source and base
+-- these are the outbox's rows after a number, of a service with this source and base
 abbrev pub ShowsAfter : List ℕ → ℕ → ℕ → ℕ → Database → List EventValue → Type 0
 ShowsAfter source base number limit db events = (commands : List Accepted)
     → IsService db source base commands → events ≡ rows_after source base commands number limit
 
--- a reading: no fault is forgotten, only an open database is open after it, and, while the disk is
--- honest and the database open, that of a service is as it was
+-- a reading of an outbox: no fault is forgotten, only an open database is open after it, and, while
+-- the disk is honest and the database open, that of a service is as it was
 pub record IsServiceReading (old new : State) : Type 0 where
   pub clean : doubt old.is_clean ≤ doubt new.is_clean
   pub was_open : HasCleanDisk new → IsTrue new.is_open → IsTrue old.is_open
@@ -44,32 +44,32 @@ pub record IsServiceReading (old new : State) : Type 0 where
       → old.now.schema ≡ schema_in_layout layout
       → (new.now ≡ old.now) × (new.committed ≡ old.committed)
 
--- where the tables are those of a service, a crash leaves what it could leave before, whether the
--- call was refused or not
+-- where the tables are those of a service's outbox, a crash leaves what it could leave before,
+-- whether the call was refused or not
 abbrev pub LeavesAsBefore : State → State → Type 0
 LeavesAsBefore old new = HasCleanDisk new → (layout : ServiceLayout)
     → old.now.schema ≡ schema_in_layout layout → (db : Trees) → new.may_leave db → old.may_leave db
 
--- no fault of the disk is forgotten, and while it is honest the database is as it was, and a crash
--- leaves what it could leave before
+-- a call of an outbox: no fault of the disk is forgotten, and while it is honest the database is as
+-- it was, and a crash leaves what it could leave before
 pub record Leaves (old new : State) : Type 0 where
   pub clean : doubt old.is_clean ≤ doubt new.is_clean
   pub same : HasCleanDisk new → IsTrue new.is_open → new.now ≡ old.now
   pub crash : HasCleanDisk new → (db : Trees) → new.may_leave db → old.may_leave db
 
--- a service without commands was made in the database, beside what was there
+-- an outbox's service without commands was made in the database, beside what was there
 pub record IsFounded (source : List ℕ) (base : ℕ) (old new : Database) : Type 0 where
   pub service : IsService new source base []
   pub gains : GainsTables old new
 
--- these are the trees of a database in which it was made
+-- these are the trees of a database in which an outbox's service was made
 pub record MayFound (source : List ℕ) (base : ℕ) (old : Database) (trees : Trees) : Type 0 where
   pub db : Database
   pub are : trees ≡ db.trees
   pub sound : IsDatabase db
   pub founded : IsFounded source base old db
 
--- these are the trees of a database that has the command too, and the inbox beside it as it was
+-- these are the trees of a database whose outbox has the command too, the inbox beside it as it was
 pub record MayAccept (source : List ℕ) (base : ℕ) (c : Accepted) (old : Database) (trees : Trees)
     : Type 0 where
   pub db : Database
@@ -79,7 +79,7 @@ pub record MayAccept (source : List ℕ) (base : ℕ) (c : Accepted) (old : Data
   pub service : (commands : List Accepted) → IsService old source base commands
       → IsService db source base (commands ++ c ∷ [])
 
--- a command was given to a service: what its value shows then
+-- a command was given to an outbox's service: what its value shows then
 pub record CommandCall {S : Type 0} (c : Accepted) (was is : Shown S)
     (result : Result EventValue OutboxFault) : Type 0 where
   -- source and base never change
@@ -92,7 +92,7 @@ pub record CommandCall {S : Type 0} (c : Accepted) (was is : Shown S)
   pub back : OnErr result (is.last ≡ was.last)
   pub fault : IfErr result (λ f. f ≢ Foreign)
 
--- and what it does to the database, while the disk gives back what was written
+-- what a command to an outbox does to the database, while the disk gives back what was written
 pub record CommandEffect {S : Type 0} (c : Accepted) (was : Shown S) (old new : State)
     (result : Result EventValue OutboxFault) : Type 0 where
   pub clean : HasCleanDisk old
@@ -110,16 +110,16 @@ pub record CommandEffect {S : Type 0} (c : Accepted) (was : Shown S) (old new : 
   pub crash : IsTrue old.is_open → (db : Trees) → new.may_leave db
       → old.may_leave db ⊎ MayAccept was.source was.base c old.now db
 
--- where it was done, the database was open, and is
+-- where a call of the outbox was done, the database was open, and is
 abbrev pub OpenThroughout : {A E : Type 0} → State → State → Result A E → Type 0
 OpenThroughout old new result = HasCleanDisk new
     → OnOk result (IsTrue old.is_open × IsTrue new.is_open)
 
--- where it was done, a service was founded
+-- where it was done, a service with an outbox was founded
 abbrev pub FoundsIfDone : {A E : Type 0} → List ℕ → ℕ → State → State → Result A E → Type 0
 FoundsIfDone source base old new result = HasCleanDisk new
     → OnOk result (IsFounded source base old.now new.now)
 
--- what a crash may leave of a founding
+-- what a crash may leave of a founding of an outbox's service
 abbrev pub LeavesFounding : List ℕ → ℕ → State → State → Type 0
 LeavesFounding source base old new = Survives old new (MayFound source base old.now)

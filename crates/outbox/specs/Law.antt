@@ -24,8 +24,8 @@ StopsLeaveANewServiceOrNone = (source : List ℕ) (base : ℕ) (old again : Data
     → (again.trees ≡ old.trees) ⊎ MayFound source base old again.trees
     → (again ≡ old) ⊎ IsFounded source base old again
 
--- of commands that were accepted one after another, the orders are those that have a status, each
--- once
+-- of commands that an outbox accepted one after another, the orders are those that have a status,
+-- each once
 abbrev pub OrdersHaveAStatus : Type 0
 OrdersHaveAStatus = (base : ℕ) (commands : List Accepted) → AreAccepted base [] commands
     → (order : ℕ) → count_by (λ n. n == order) (orders_of commands)

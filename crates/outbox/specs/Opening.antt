@@ -12,13 +12,13 @@ use Rattle.outbox.specs.Call.{IsAsItWas, IsFounded, IsSettled, Leaves, MayFound}
 use Rattle.outbox.specs.declared.fault.OutboxFault.{OutboxFault}
 use Rattle.outbox.specs.declared.fault.OutboxFault.TheVariants.{Foreign, OutOfMemory, Store}
 
--- a crash leaves what it could leave before, or, where no table of a service's names was there, the
+-- a crash leaves what it could leave before, or, where no table of an outbox's names was there, the
 -- service made
 abbrev pub LeavesOrMakes : List ℕ → ℕ → State → State → Type 0
 LeavesOrMakes source base old new = HasCleanDisk new → (db : Trees) → new.may_leave db
     → old.may_leave db ⊎ ((has_name old.now.schema ≡ false) × MayFound source base old.now db)
 
--- a service was opened, with this source and base where none was there
+-- an outbox's service was opened, with this source and base where none was there
 pub record OpensService {S : Type 0} (source : List ℕ) (base : ℕ) (old : State) (is : Shown S)
     (new : State) : Type 0 where
   -- no fault of the disk is forgotten
@@ -42,7 +42,7 @@ pub record OpensService {S : Type 0} (source : List ℕ) (base : ℕ) (old : Sta
   -- whichever it was, a crash leaves one of the two
   pub crash : LeavesOrMakes source base old new
 
--- no service was opened, for this fault
+-- no service of an outbox was opened, for this fault
 pub record IsOpeningRefused (source : List ℕ) (base : ℕ) (old new : State) (f : OutboxFault) : Type 0 where
   -- no fault of the disk is forgotten, and the database is as it was
   pub clean : doubt old.is_clean ≤ doubt new.is_clean

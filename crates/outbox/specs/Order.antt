@@ -14,11 +14,11 @@ pub record Accepted : Type 0 where
   pub order : ℕ
   pub at : List ℕ
 
--- an order may have this number
+-- an order of an outbox may have this number
 abbrev pub IsOrder : ℕ → Type 0
 IsOrder order = (1 ≤ order) × (order ≤ max_sequence)
 
--- a command's time has at most 64 bytes
+-- the time of a command on an order has at most 64 bytes
 abbrev pub IsShortTime : List ℕ → Type 0
 IsShortTime at = length at ≤ 64
 
@@ -65,7 +65,7 @@ refusal base commands status order =
     option_or (status_fault status (status_of commands order))
     (if base + length commands == max_sequence then Some Full else None)
 
--- each command is one, and is accepted after those before it
+-- each is a command on an order, and is accepted after those before it
 abbrev pub AreAccepted : ℕ → List Accepted → List Accepted → Type 0
 AreAccepted base before [] = ⊤
 AreAccepted base before (c ∷ after) =

@@ -9,13 +9,13 @@ use Rattle.outbox.specs.Layout.{ServiceLayout, first_tree, schema_in_layout}
 use Rattle.outbox.specs.declared.status.Status.{Status}
 use Rattle.outbox.specs.declared.status.Status.TheVariants.{Placed, Shipped, Cancelled}
 
--- the number of a status in the tables
+-- the number of an order's status in the outbox's tables
 abbrev pub code : Status → ℕ
 code Placed = 1
 code Shipped = 2
 code Cancelled = 3
 
--- the row of `service`; a row has its rowid first, and a NULL for the column that is the rowid
+-- the row of an outbox's `service`; a row has its rowid first, and NULL for the column that is it
 abbrev pub service_row : List ℕ → ℕ → Row
 service_row source base = Int (pos 1) ∷ Null ∷ Words source ∷ Int (pos base) ∷ []
 
@@ -28,12 +28,12 @@ abbrev pub outbox_row : ℕ → Accepted → Row
 outbox_row number c =
     Int (pos number) ∷ Null ∷ Int (pos (code c.status)) ∷ Int (pos c.order) ∷ Words c.at ∷ []
 
--- the rows of commands whose numbers run from this one on
+-- the outbox rows of commands whose numbers run from this one on
 abbrev pub outbox_rows : ℕ → List Accepted → List Row
 outbox_rows number [] = []
 outbox_rows number (c ∷ commands) = outbox_row number c ∷ outbox_rows (suc number) commands
 
--- the rows are those of each order and its status
+-- the rows of `orders` are those of each order and its status
 pub record AreOrders (rows : List Row) (commands : List Accepted) : Type 0 where
   pub sound : (r : Row) → Has rows r
       → (order : ℕ) × (status : Status)

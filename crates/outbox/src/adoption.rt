@@ -40,7 +40,7 @@ pub(crate) struct Replayed {
     pub(crate) last: u64,
 }
 
-/// Whether it is a time of at most 64 bytes.
+/// Whether it is a time of at most 64 bytes, as a command on an order of the outbox has.
 fn is_time(alloc: Global, text: &str) -> Result<bool, OutboxFault>
     ensures time { IfOk result (λ b.
         IsTrue b ↔ ((time_day text.now ≢ None) × (length text.now ≤ 64))) }
@@ -56,7 +56,7 @@ fn is_time(alloc: Global, text: &str) -> Result<bool, OutboxFault>
     }
 }
 
-/// The command of a row that has this number, where a call can have left the row so.
+/// The command on an order in an outbox row of this number, where a call can have left the row so.
 fn command_in(alloc: Global, row: &Row, number: u64) -> Result<Option<Stored<'_>>, OutboxFault>
     ensures row { IfOk result (λ o. IfSome o (λ s. row.now ≡ stored_row number
         (record { status = s.status; order = s.order; at = s.at.now }))) }
@@ -79,7 +79,7 @@ fn command_in(alloc: Global, row: &Row, number: u64) -> Result<Option<Stored<'_>
     }
 }
 
-/// The status that an order has so far.
+/// The status that a service's order has so far, as its outbox is replayed.
 fn status_at(statuses: &BTreeMap<u64, Status>, order: u64) -> Option<Status>
     ensures { result ≡ get nat_cmp statuses.now order }
 {
@@ -89,7 +89,7 @@ fn status_at(statuses: &BTreeMap<u64, Status>, order: u64) -> Option<Status>
     }
 }
 
-/// The commands whose rows these are, where each is accepted after those before it; else none.
+/// The commands of these outbox rows, where each is accepted after those before it; else none.
 #[tactic(auto, using(crate::proofs::ReplayLemmas::replay_on, crate::proofs::ReplayLemmas::replay_all))]
 pub(crate) fn replay(
     alloc: Global,
@@ -169,7 +169,7 @@ pub(crate) struct Found {
     pub(crate) orders: u64,
 }
 
-/// The source and base in the one row of `service`, where a call can have left them so.
+/// The source and base in the one row of an outbox's `service`, where a call can have left them so.
 fn service_in(alloc: Global, rows: &[Row]) -> Result<Option<(Text, u64)>, OutboxFault>
     ensures row { IfOk result (λ o. IfSome o (λ p. rows.now ≡ shown_service p.0 p.1 ∷ [])) }
     ensures range { IfOk result (λ o. IfSome o (λ p. IsAllowed p.0 p.1)) }
@@ -194,7 +194,7 @@ fn service_in(alloc: Global, rows: &[Row]) -> Result<Option<(Text, u64)>, Outbox
     }
 }
 
-/// The rows that a question with no parameter shows.
+/// The rows that a question with no parameter to the outbox's tables shows.
 fn all_of<S: Alter>(conn: &mut Connection<S>, sql: &str) -> Result<Vec<Row>, OutboxFault>
     requires plain { (layout : ServiceLayout) → IsPlain (understood (schema_in_layout layout) sql.now) }
     ensures shown { HasCleanDisk (state S.Store conn.new) → IfOk result (λ rows.
@@ -213,7 +213,7 @@ fn all_of<S: Alter>(conn: &mut Connection<S>, sql: &str) -> Result<Vec<Row>, Out
     Ok(conn.query_all(sql, &[])?)
 }
 
-/// What the tables say, where they are those of a service.
+/// What an outbox's tables say, where they are those of a service.
 pub(crate) fn found_in<S: Alter>(
     alloc: Global,
     conn: &mut Connection<S>,
@@ -270,8 +270,8 @@ pub(crate) fn found_in<S: Alter>(
     }
 }
 
-/// What the schema and the tables say, where they are those of a service. `Foreign` where a table
-/// is missing or the rows are others, `Store` where the file has other tables.
+/// What the schema and an outbox's tables say, where they are those of a service. `Foreign` where a
+/// table is missing or the rows are others, `Store` where the file has other tables.
 fn read<S: Alter>(alloc: Global, conn: &mut Connection<S>) -> Result<Found, OutboxFault>
     ensures stands { HasCleanDisk (state S.Store conn.new) → IfOk result (λ f.
         IsTrue (state S.Store conn.new).is_open

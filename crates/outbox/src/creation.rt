@@ -22,7 +22,7 @@ use database_layout::{Layout, has_name, make_service};
 use sqlite::{Alter, Connection, Error, ErrorCode, Transaction, params};
 use std::alloc::Global;
 
-/// INSERT INTO service.
+/// INSERT INTO service: the row with the source and base of an outbox.
 fn fill<S: Alter>(
     tx: &mut Transaction<'_, S>,
     one: i64,
@@ -43,8 +43,8 @@ fn fill<S: Alter>(
     )
 }
 
-/// Makes the tables of a service with this source and base in one transaction, in a database with
-/// this layout.
+/// Makes the tables of a service's outbox with this source and base in one transaction, in a
+/// database with this layout.
 fn found<S: Alter>(
     conn: &mut Connection<S>,
     before: Layout,
@@ -73,8 +73,8 @@ fn found<S: Alter>(
     tx.commit()
 }
 
-/// Makes the tables where there is room for them; `Store` where the file has other tables than an
-/// inbox's.
+/// Makes an outbox's tables where there is room for them; `Store` where the file has other tables
+/// than an inbox's.
 fn found_in_room<S: Alter>(
     conn: &mut Connection<S>,
     source: &Text,

@@ -63,7 +63,7 @@ impl From<sqlite::Error> for OutboxFault {
 }
 
 impl OutboxFault {
-    /// The number that the fault is known by, 1 to 7.
+    /// The number that the fault of an outbox is known by, 1 to 7.
     pub fn number(self) -> u8
         ensures { result ≡ fault_number self }
     {

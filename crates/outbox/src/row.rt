@@ -27,7 +27,7 @@ fn zeros(alloc: Global, count: usize) -> Result<String, AllocError>
     Ok(text)
 }
 
-/// The twenty digits of a number.
+/// The twenty digits of a number, as the event of an outbox row has them.
 fn in_twenty(alloc: Global, number: u64) -> Result<Text, AllocError>
     ensures { IfOk result (λ t. t ≡ twenty number) }
 {
@@ -78,8 +78,8 @@ fn parts(
     Ok(parts)
 }
 
-/// The event of a row. No row of a service is refused but for want of memory; should one be, the
-/// answer is `Store`.
+/// The event of an outbox's row. No row of a service is refused but for want of memory; should one
+/// be, the answer is `Store`.
 pub(crate) fn event(
     alloc: Global,
     source: &str,

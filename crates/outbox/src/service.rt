@@ -110,7 +110,7 @@ fn stored_events(alloc: Global, source: &str, rows: &[Row]) -> Result<Batch, Out
     Ok(batch)
 }
 
-/// The status of an order, where it is there.
+/// The status of an order of the outbox, where it is there.
 fn status_in<S: Alter>(conn: &mut Connection<S>, order: u64) -> Result<Option<Status>, OutboxFault>
     requires { order < 2 ^ 63 }
     ensures status { HasCleanDisk (state S.Store conn.new) → IfOk result (λ s.
@@ -133,7 +133,7 @@ fn status_in<S: Alter>(conn: &mut Connection<S>, order: u64) -> Result<Option<St
     }
 }
 
-/// Whether the command is accepted, after the rows up to `last`.
+/// Whether the outbox accepts the command on an order, after the rows up to `last`.
 #[tactic(auto, using(crate::proofs::ServiceLemmas::not_foreign))]
 fn decide<S: Alter>(
     conn: &mut Connection<S>,
@@ -170,7 +170,7 @@ fn decide<S: Alter>(
     Ok(())
 }
 
-/// The number behind this one; where there is none, this one.
+/// The number of the outbox row behind this one; where there is none, this one.
 fn next_number(last: u64) -> u64
     ensures { last < max_sequence → result ≡ suc last }
 {
@@ -178,8 +178,8 @@ fn next_number(last: u64) -> u64
 }
 
 impl<S: Alter> Service<S> {
-    /// The source of its events: at least one character, no control character, and at most 1,024
-    /// bytes.
+    /// The source of the outbox's events: at least one character, no control character, and at most
+    /// 1,024 bytes.
     pub fn source(&self) -> &Text
         ensures source { result.now ≡ self.now.source }
         ensures stands { StandsForService (state S.Store self.now.conn)
@@ -188,7 +188,7 @@ impl<S: Alter> Service<S> {
         &self.source
     }
 
-    /// The number before that of its first row, in 0..=2^63-1.
+    /// The number before that of the outbox's first row, in 0..=2^63-1.
     pub fn base(&self) -> u64
         ensures base { result ≡ self.now.base }
         ensures stands { StandsForService (state S.Store self.now.conn)
@@ -197,7 +197,7 @@ impl<S: Alter> Service<S> {
         self.base
     }
 
-    /// How many orders it has, whatever their status. The time is constant.
+    /// How many orders the service has, whatever their status. The time is constant.
     pub fn orders(&self) -> u64
         ensures orders { HasCleanDisk (state S.Store self.now.conn)
             → IsTrue (state S.Store self.now.conn).is_open → CountsOrders
@@ -217,7 +217,7 @@ impl<S: Alter> Service<S> {
         self.last - self.base
     }
 
-    /// Gives the connection back, with its tables as they are.
+    /// Gives the outbox's connection back, with its tables as they are.
     pub fn into_connection(self) -> Connection<S>
         ensures { result ≡ self.conn }
     {
@@ -260,7 +260,7 @@ impl<S: Alter> Service<S> {
         )
     }
 
-    /// Decides on a command, makes its event, and only then writes.
+    /// Decides on a command on an order, makes its event for the outbox, and only then writes.
     fn accept(&mut self, status: Status, order: u64, at: &Moment) -> Result<Sequenced, OutboxFault>
         requires order { IsOrder order }
         requires short { IsShortTime at.now }
@@ -348,9 +348,9 @@ impl<S: Alter> Service<S> {
         self.accept(Status::Cancelled, order, at)
     }
 
-    /// At most `limit` rows (1 to 100) with a greater number than `after`, in order. The fault is
-    /// `Store` or want of memory. Time and memory in proportion to those rows, and the logarithm of
-    /// all.
+    /// At most `limit` rows (1 to 100) of the outbox with a greater number than `after`, in order.
+    /// The fault is `Store` or want of memory. Time and memory in proportion to those rows, and the
+    /// logarithm of all.
     pub fn rows_after(&mut self, after: u64, limit: u64) -> Result<Batch, OutboxFault>
         requires limit { (1 ≤ limit) × (limit ≤ 100) }
         ensures kept { (self.new.source ≡ self.old.source) × (self.new.base ≡ self.old.base)

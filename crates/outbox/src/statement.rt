@@ -18,7 +18,7 @@ use crate::fault::OutboxFault;
 use crate::status::Status;
 use sqlite::{Alter, Connection, Error, ErrorCode, Row, Transaction, params};
 
-/// A number below 2^63 as SQL has it.
+/// A number below 2^63, of an order or an outbox row, as SQL has it.
 pub(crate) fn signed(n: u64) -> i64
     requires { n < 2 ^ 63 }
     ensures { result ≡ pos n }
@@ -26,7 +26,7 @@ pub(crate) fn signed(n: u64) -> i64
     n as i64
 }
 
-/// INSERT OR REPLACE INTO orders.
+/// INSERT OR REPLACE INTO orders: the row of an order and its status.
 fn note<S: Alter>(tx: &mut Transaction<'_, S>, order: i64, status: i64) -> Result<usize, Error>
     ensures same_reference { tx.new.conn.ghost_name ≡ tx.old.conn.ghost_name }
     ensures runs { HasCleanDisk (state S.Store tx.new.conn.now)
@@ -42,7 +42,7 @@ fn note<S: Alter>(tx: &mut Transaction<'_, S>, order: i64, status: i64) -> Resul
     )
 }
 
-/// INSERT INTO outbox.
+/// INSERT INTO outbox: the row of a command on an order.
 fn append<S: Alter>(
     tx: &mut Transaction<'_, S>,
     number: i64,
@@ -98,7 +98,7 @@ pub(crate) fn write<S: Alter>(
     tx.commit()
 }
 
-/// The status of an order, asked.
+/// The status of an order, asked of the outbox's tables.
 fn status_asked<S: Alter>(conn: &mut Connection<S>, order: i64) -> Result<Vec<Row>, Error>
     ensures ok { HasCleanDisk (state S.Store conn.new) → IfOk result (λ rows.
         Shown status_text (Int order ∷ []) (state S.Store conn.old) (state S.Store conn.new)
@@ -111,7 +111,7 @@ fn status_asked<S: Alter>(conn: &mut Connection<S>, order: i64) -> Result<Vec<Ro
     conn.query_all("SELECT state FROM orders WHERE number = ?1", params![order])
 }
 
-/// A page of rows, asked.
+/// A page of the outbox's rows, asked.
 fn page_asked<S: Alter>(conn: &mut Connection<S>, after: i64, limit: i64) -> Result<Vec<Row>, Error>
     ensures ok { HasCleanDisk (state S.Store conn.new) → IfOk result (λ rows.
         Shown page_text (Int after ∷ Int limit ∷ []) (state S.Store conn.old)
@@ -128,7 +128,7 @@ fn page_asked<S: Alter>(conn: &mut Connection<S>, after: i64, limit: i64) -> Res
     )
 }
 
-/// The rows of `orders` with that number.
+/// The rows of the outbox's `orders` with that number.
 pub(crate) fn status_rows<S: Alter>(
     conn: &mut Connection<S>,
     order: u64,

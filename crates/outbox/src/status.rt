@@ -17,7 +17,7 @@ pub enum Status {
 }
 
 impl Status {
-    /// Its number in the tables.
+    /// The number of an order's status in the outbox's tables.
     pub(crate) fn code(self) -> i64
         ensures { result ≡ pos (code self) }
     {
@@ -28,7 +28,7 @@ impl Status {
         }
     }
 
-    /// The status with this number, where there is one.
+    /// The order's status with this number in the outbox's tables, where there is one.
     pub(crate) fn of_code(number: u64) -> Option<Status>
         ensures some { IfSome result (λ s. number ≡ code s) }
         ensures none { IfNone result ((s : Status) → number ≢ code s) }

@@ -22,7 +22,7 @@ pub(crate) struct Stored<'row> {
     pub(crate) at: &'row str,
 }
 
-/// The whole number, 0 or more, that the row has there.
+/// The whole number, 0 or more, that a row of the outbox's tables has there.
 fn number_at(row: &Row, at: usize) -> Option<u64>
     ensures some { IfSome result (λ n. column row.now at ≡ Int (pos n)) }
     ensures none { IfNone result ((n : ℕ) → at < length row.now → column row.now at ≢ Int (pos n)) }
@@ -33,7 +33,7 @@ fn number_at(row: &Row, at: usize) -> Option<u64>
     }
 }
 
-/// The text that the row has there.
+/// The text that a row of the outbox's tables has there.
 fn text_at(row: &Row, at: usize) -> Option<&str>
     ensures some { IfSome result (λ t. column row.now at ≡ Words t.now) }
     ensures none { IfNone result ((t : List ℕ) → IsUtf8 t → at < length row.now
@@ -48,7 +48,7 @@ fn text_at(row: &Row, at: usize) -> Option<&str>
     }
 }
 
-/// The status whose number the row has there.
+/// The order's status whose number a row of the outbox's tables has there.
 pub(crate) fn status_in_row(row: &Row, at: usize) -> Option<Status>
     ensures some { IfSome result (λ s. column row.now at ≡ Int (pos (code s))) }
     ensures none { IfNone result ((s : Status) → at < length row.now
@@ -97,7 +97,7 @@ pub(crate) fn order_in(row: &Row) -> Option<(u64, Status)>
     Some((order, status))
 }
 
-/// The source and the base of the row of `service`.
+/// The source and the base of the row of an outbox's `service`.
 pub(crate) fn source_in(row: &Row) -> Option<(&str, u64)>
     ensures some { IfSome result (λ p. row.now ≡ shown_service p.0.now p.1) }
     ensures none { IfNone result ((source : List ℕ) (base : ℕ) → IsUtf8 source

@@ -10,8 +10,8 @@ use Rattle.attributes.specs.Sequence.{number_of}
 use Rattle.event_json.specs.Parts.{PartsSpellBoth, SpellsSome, WholesRead, part_text}
 use Rattle.event_json.specs.Reading.{max_input}
 use Rattle.inbox.specs.Sets.{AreEvents}
-use Rattle.event_files.specs.Files.{AreSequenced}
-use Rattle.parallel_reader.specs.Parts.{IsBatchPart, SpellsBatch}
+use Rattle.event_files.specs.Files.{AreSequenced, SpellsBatch}
+use Rattle.parallel_reader.specs.Parts.{IsBatchPart}
 
 pub of_ok : {A E : Type 0} (P : A → Type 0) (r : Result A E) (a : A) → r ≡ Ok a → IfOk r P → P a
 of_ok P r a e h = subst (λ x. IfOk x P) e h

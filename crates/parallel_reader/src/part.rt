@@ -10,8 +10,8 @@ use event_json::{batch_parts_join, next_comma, read_part_events};
 use std::alloc::{AllocError, Global};
 use std::thread::{Threads, join};
 
-/// The events of a part of a batch, each half of it read with threads of its own, down to `levels`
-/// halvings. `None` says nothing of the bytes.
+/// The events of a part of a large file's batch, each half of it read with threads of its own, down
+/// to `levels` halvings. `None` says nothing of the bytes.
 #[cycle(levels)]
 pub fn read_halves<R: Threads + Sync>(
     rt: &R,
@@ -58,7 +58,7 @@ pub fn read_halves<R: Threads + Sync>(
     Ok(Some(events))
 }
 
-/// The events of a part of a batch, with their numbers. `None` says nothing of the bytes.
+/// The events of a part of a large file's batch, with numbers. `None` says nothing of the bytes.
 fn read_part(
     alloc: Global,
     bytes: &[u8],

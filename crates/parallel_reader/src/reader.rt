@@ -1,7 +1,7 @@
 //! A reader with as many threads as there are processors.
 ghost use Rattle.std.specs.Prelude.{◌≡◌, ◌≤◌, IfOk, IfSome, length};
 ghost use Rattle.event_json.specs.Reading.{max_input};
-ghost use Rattle.parallel_reader.specs.Parts.{SpellsBatch};
+ghost use Rattle.event_files.specs.Files.{SpellsBatch};
 
 use crate::part::read_halves;
 use attributes::Batch;
@@ -27,7 +27,7 @@ pub struct ParallelReader<'r, R> {
 }
 
 impl<'r, R: Threads + Sync> ParallelReader<'r, R> {
-    /// The events of a large file, where it was read in parts.
+    /// The events of a large file, where it was read in parts with several threads.
     fn read_parts(
         &self,
         alloc: Global,
@@ -52,21 +52,12 @@ impl<'r, R: Threads + Sync> EventReader for ParallelReader<'r, R> {
 
     ghost can_read = { λ _. IsSync R.row };
 
-    fn read(&self, alloc: Global, bytes: &[u8]) -> Result<Batch, ReportFault> {
+    fn read(&self, alloc: Global, bytes: &[u8], is_sorted: bool) -> Result<Batch, ReportFault> {
         if bytes.len() >= PARTED && bytes.len() as u64 <= MAX_INPUT {
-            if let Some(events) = self.read_parts(alloc, bytes, false)? {
+            if let Some(events) = self.read_parts(alloc, bytes, is_sorted)? {
                 return Ok(events);
             }
         }
-        SequentialReader {}.read(alloc, bytes)
-    }
-
-    fn read_sorted(&self, alloc: Global, bytes: &[u8]) -> Result<Batch, ReportFault> {
-        if bytes.len() >= PARTED && bytes.len() as u64 <= MAX_INPUT {
-            if let Some(events) = self.read_parts(alloc, bytes, true)? {
-                return Ok(events);
-            }
-        }
-        SequentialReader {}.read_sorted(alloc, bytes)
+        SequentialReader {}.read(alloc, bytes, is_sorted)
     }
 }

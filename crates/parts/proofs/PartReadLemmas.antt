@@ -1,4 +1,4 @@
--- What a text tells, where it is events_told again as it is.
+-- What a text tells, where it is told again as it is.
 use Rattle.std.proofs.Common.{◌≡◌, ℕ, List, Bool, true, false, not, bytes_eq, Option, Some, None, refl, sym, ap, ◌∙◌, subst, true≢false}
 use Rattle.std.proofs.lemmas.Slice.Eq.{bytes_eq-Decides}
 use Rattle.attributes.specs.Event.{EventValue, text}
@@ -32,7 +32,7 @@ unequal_texts x y test same = true≢false (sym ((bytes_eq-Decides x y).1 same) 
 some_is : (x y : List EventValue) → ◌≡◌ {A = Option (List EventValue)} (Some x) (Some y) → x ≡ y
 some_is x y h = cc
 
--- a text that isn't events_told again as it is answers the question over no set
+-- a text that isn't told again as it is answers the question over no set
 pub differs : ((e f : EventValue) → IsEvent e → IsEvent f → text e ≡ text f → e ≡ f) → AnswersAreOne
     → (q : Query) → IsOfEvents q → (E : List EventValue) → IsHeld E → (t : List ℕ) (list F : List EventValue) (printed lent : List ℕ)
     → ◌≡◌ {A = Option (List EventValue)} (Some list) (Some (events_told q E)) → F ≡ set_of list → IsAnswer q F printed → lent ≡ printed → IsAnswer q E t

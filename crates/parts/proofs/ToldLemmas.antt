@@ -148,7 +148,7 @@ module _ (tells : (e f : EventValue) → IsEvent e → IsEvent f → text e ≡ 
   told_events query.Days is E a = absurd is
   told_events query.Gaps is E a = absurd is
 
-  -- what is events_told of a set, asked again
+  -- what is told of a set, asked again
   pub again : (q : Query) → IsOfEvents q → (E : List EventValue) → IsHeld E → (t : List ℕ) → IsAnswer q (set_of (events_told q E)) t → IsAnswer q E t
   again query.Cover is E held t h = absurd is
   again query.Shown is E held t h =

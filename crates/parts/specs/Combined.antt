@@ -17,46 +17,46 @@ pub record AreAnswers (query : Query) (p : List ℕ → ℕ) (E : List EventValu
   pub each : (i : ℕ) (text : List ℕ) → slice_get texts i ≡ Some text
       → IsAnswer query (part p i E) text
 
--- a summary of that version
+-- the summary that a part's text tells is of that version
 abbrev pub IsOfVersion : ℕ → Sources → Type 0
 IsOfVersion version s = IsSummary s × (version_of s ≡ version)
 
--- the text is the line of no summary of that version
+-- the text of a part is the line of no summary of that version
 abbrev pub IsNoLineOf : ℕ → List ℕ → Type 0
 IsNoLineOf version text = (s : Sources) → IsOfVersion version s → text ≢ cover_line s
 
--- a summary of version 1
+-- the summary of a part is of version 1
 abbrev pub IsOfFirstVersion : Sources → Type 0
 IsOfFirstVersion s = IsOfVersion 1 s
 
--- the texts are the answers to `cover` that say what the summaries do
+-- the texts of parts are the answers to `cover` that say what the summaries do
 pub record AreCovers (texts : List (List ℕ)) (summaries : List Sources) : Type 0 where
   pub first : AllByRecursion IsOfFirstVersion summaries
   pub written : map cover_line summaries ≡ texts
 
--- the summary has a number of the source
+-- the summary of a part has a number of the source
 abbrev pub HasSource : Sources → List ℕ → Type 0
 HasSource s source = (n : ℕ) × (holds_at s source n ≡ true)
 
--- no source has numbers in both
+-- no source has numbers in the summaries of both parts
 abbrev pub ShareNone : Sources → Sources → Type 0
 ShareNone s t = (source : List ℕ) → HasSource s source → HasSource t source → ⊥
 
--- the summary at a place has a number of the source
+-- the summary at a place, that of a part, has a number of the source
 abbrev pub HasAt : List Sources → ℕ → List ℕ → Type 0
 HasAt summaries i source =
     (s : Sources) × (slice_get summaries i ≡ Some s) × HasSource s source
 
--- no source has numbers in two summaries
+-- no source has numbers in the summaries of two parts
 abbrev pub AreApart : List Sources → Type 0
 AreApart summaries =
     (i j : ℕ) (source : List ℕ) → i < j → HasAt summaries i source → HasAt summaries j source → ⊥
 
--- the texts are covers in which no source stands twice
+-- the texts are covers of parts in which no source stands twice
 abbrev pub AreApartCovers : List (List ℕ) → Type 0
 AreApartCovers texts = (summaries : List Sources) × AreCovers texts summaries × AreApart summaries
 
--- the text isn't the answer to `cover` over any set
+-- the text of a part isn't the answer to `cover` over any set
 abbrev pub IsNoCover : List ℕ → Type 0
 IsNoCover text = IsNoLineOf 1 text
 
@@ -69,14 +69,14 @@ RefusesCovers texts (Overlap name i j) =
     × HasAt summaries i (string_bytes name) × HasAt summaries j (string_bytes name)
 RefusesCovers texts _ = ⊥
 
--- what is true of summaries that are refused with the fault
+-- what is true of summaries of parts that are refused with the fault
 abbrev pub RefusesRead : List Sources → CombineFault → Type 0
 RefusesRead summaries OutOfMemory = Unit {0}
 RefusesRead summaries (Overlap name i j) =
     (i < j) × HasAt summaries i (string_bytes name) × HasAt summaries j (string_bytes name)
 RefusesRead summaries _ = ⊥
 
--- the summary holds what one of the summaries does
+-- the combined summary holds what one of the parts' summaries does
 abbrev pub HoldsUnion : List Sources → Sources → Type 0
 HoldsUnion summaries s =
     (source : List ℕ) (n : ℕ) → holds_at s source n

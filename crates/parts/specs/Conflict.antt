@@ -7,15 +7,15 @@ use Rattle.attributes.specs.Fault.{IsEvent}
 use Rattle.attributes.specs.Sequence.{number_of}
 use Rattle.inbox.specs.declared.conflict.Conflict.{Conflict}
 
--- it is an event and has a number
+-- what a part's line tells is an event and has a number
 abbrev pub IsSequenced : EventValue → Type 0
 IsSequenced e = IsEvent e × ((n : ℕ) × (number_of e ≡ Some n))
 
--- the event as JSON
+-- an event as JSON in a part's line of a conflict
 abbrev pub event_data : EventValue → Data
 event_data e = object (members_of e)
 
--- {"events":[E1,E2,..],"id":ID,"source":SOURCE}
+-- {"events":[E1,E2,..],"id":ID,"source":SOURCE}, the JSON of a part's conflict
 abbrev pub conflict_data : Conflict → Data
 conflict_data c =
     object (member (codes "events") (array (items_of (map event_data c.events)))

@@ -30,11 +30,11 @@ pub record NumbersOfPart : Type 0 where
   pub rows : (p : List ℕ → ℕ) (i : ℕ) (E : List EventValue) (rows : Entries) → AreGaps E rows
       → AreGaps (part p i E) (rows_of_part p i rows)
 
--- the shown events of a part
+-- the shown events of a part are those of the whole whose source falls to it
 abbrev pub ShownPart : Type 0
 ShownPart = (p : List ℕ → ℕ) (i : ℕ) (E : List EventValue) → shown (part p i E) ≡ part p i (shown E)
 
--- the conflicts of a part
+-- the conflicts of a part are those of the whole whose source falls to it
 abbrev pub ConflictsPart : Type 0
 ConflictsPart = (p : List ℕ → ℕ) (i : ℕ) (E : List EventValue)
     → conflicts (part p i E) ≡ filter (λ c. falls_to p i c.source) (conflicts E)
@@ -53,7 +53,7 @@ pub record PartsAdd : Type 0 where
   pub days : (p : List ℕ → ℕ) (n : ℕ) (E : List EventValue) → FallsBelow p n
       → days E ≡ added day_cmp (of_parts n (λ i. days (part p i E)))
 
--- the latest events of a part
+-- the latest events of a part are those of the whole whose source falls to it
 abbrev pub LatestPart : Type 0
 LatestPart = (p : List ℕ → ℕ) (i : ℕ) (E : List EventValue) → latest (part p i E) ≡ part p i (latest E)
 

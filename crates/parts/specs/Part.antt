@@ -9,7 +9,7 @@ use Rattle.attributes.specs.Event.{EventValue, source_of}
 abbrev pub falls_to : (List ℕ → ℕ) → ℕ → List ℕ → Bool
 falls_to p i source = p source == i
 
--- the events of a list whose sources fall to part i, in the order of the list
+-- part i of a list: the events whose sources fall to it, in the order of the list
 abbrev pub part : (List ℕ → ℕ) → ℕ → List EventValue → List EventValue
 part p i events = filter (λ e. falls_to p i (source_of e)) events
 
@@ -17,7 +17,7 @@ part p i events = filter (λ e. falls_to p i (source_of e)) events
 abbrev pub FallsBelow : (List ℕ → ℕ) → ℕ → Type 0
 FallsBelow p n = (source : List ℕ) → p source < n
 
--- what the parts 0 to n - 1 give, one behind the other
+-- what the parts 0 to n - 1 of a region give, one behind the other
 abbrev pub of_parts : {X : Type 0} → ℕ → (ℕ → List X) → List X
 of_parts n f = flat_map f (range_with_len 0 n)
 

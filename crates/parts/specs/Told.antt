@@ -24,38 +24,38 @@ pub record IsHeld (E : List EventValue) : Type 0 where
   pub numbered : HaveEachNumber E
   pub sorted : IsStrictlySortedBy key_cmp E
 
--- the events that an answer tells, in its order; none, where its lines tell none
+-- the events that a part's answer tells, in its order; none, where its lines tell none
 abbrev pub events_told : Query → List EventValue → List EventValue
 events_told query.Shown E = shown E
 events_told query.Conflicts E = flat_map (λ c. c.events) (conflicts E)
 events_told query.Latest E = latest E
 events_told _ E = []
 
--- the questions whose answers tell events
+-- the questions whose answers, part by part, tell events
 abbrev pub IsOfEvents : Query → Type 0
 IsOfEvents query.Shown = ⊤
 IsOfEvents query.Conflicts = ⊤
 IsOfEvents query.Latest = ⊤
 IsOfEvents _ = ⊥
 
--- the text answers the question over no set
+-- the text of a part answers the question over no set
 abbrev pub IsNoAnswer : Query → List ℕ → Type 0
 IsNoAnswer query text = (E : List EventValue) → IsHeld E → IsAnswer query E text → ⊥
 
--- the text answers the question over the set of the events, and tells just these, whichever set it
--- answers the question over
+-- the part's text answers the question over the set of the events, and tells just these, whichever
+-- set it answers the question over
 pub record TellsEvents (query : Query) (text : List ℕ) (events : List EventValue) : Type 0 where
   pub are_events : AreEvents events
   pub answer : IsAnswer query (set_of events) text
   pub own : (E : List EventValue) → IsHeld E → IsAnswer query E text
       → events ≡ set_of (events_told query E)
 
--- the set has just the events that the text tells
+-- the set has just the events that the text of a part tells
 abbrev pub TellsSet : Query → List ℕ → List EventValue → Type 0
 TellsSet query text E =
     (events : List EventValue) × TellsEvents query text events × (E ≡ set_of events)
 
--- the summaries say which numbers the events have that the texts tell
+-- the summaries say which numbers the events have that the texts of parts tell
 abbrev pub AreToldBy : Query → List (List ℕ) → List Sources → Type 0
 AreToldBy query [] [] = Unit {0}
 AreToldBy query (text ∷ texts) (s ∷ summaries) =
@@ -63,7 +63,7 @@ AreToldBy query (text ∷ texts) (s ∷ summaries) =
     × AreToldBy query texts summaries
 AreToldBy query _ _ = ⊥
 
--- what is true of texts that are refused with the fault
+-- what is true of texts of parts that are refused with the fault
 abbrev pub RefusesTold : Query → List (List ℕ) → CombineFault → Type 0
 RefusesTold query texts OutOfMemory = Unit {0}
 RefusesTold query texts (NotAnAnswer i) =
@@ -73,12 +73,12 @@ RefusesTold query texts (Overlap name i j) =
     × HasAt summaries i (string_bytes name) × HasAt summaries j (string_bytes name)
 RefusesTold query texts _ = ⊥
 
--- no source stands in two of the texts
+-- no source stands in the texts of two parts
 abbrev pub AreToldApart : Query → List (List ℕ) → Type 0
 AreToldApart query texts =
     (summaries : List Sources) × AreToldBy query texts summaries × AreApart summaries
 
--- the events of texts, as a set, and which numbers the events of each have
+-- the events of the texts of parts, as a set, and which numbers the events of each have
 pub record AreGathered (query : Query) (texts : List (List ℕ)) (E : List EventValue)
     (summaries : List Sources) : Type 0 where
   pub events : List EventValue
@@ -86,7 +86,7 @@ pub record AreGathered (query : Query) (texts : List (List ℕ)) (E : List Event
   pub set : E ≡ set_of events
   pub covers : AreToldBy query texts summaries
 
--- the text answers the question over the set of all events that the texts tell
+-- the combined text answers the question over the set of all events that the parts' texts tell
 abbrev pub IsToldTogether : Query → List (List ℕ) → List ℕ → Type 0
 IsToldTogether query texts text =
     (events : List EventValue) × AreJoined (TellsEvents query) texts events

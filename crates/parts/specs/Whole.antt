@@ -32,7 +32,7 @@ AreApartIn query.Days answers covers =
 AreApartIn query.Gaps answers covers = AreBeside answers covers × AreGapsBeside answers covers
 AreApartIn q answers covers = AreBeside answers covers × AreToldApart q answers
 
--- what is true of texts that are refused with the fault
+-- what is true of the texts of parts that are refused with the fault
 abbrev pub RefusesParts : Query → List (List ℕ) → List (List ℕ) → CombineFault → Type 0
 RefusesParts query.Cover answers covers f = RefusesCovers answers f
 RefusesParts query.Shown answers covers f = RefusesTold query.Shown answers f
@@ -54,7 +54,7 @@ has_covers query.Kinds = true
 has_covers query.Days = true
 has_covers query.Gaps = true
 
--- the fault of an answer that is none to the question
+-- the fault of a part's answer that is none to the question
 abbrev pub no_answer : Query → ℕ → CombineFault
 no_answer query.Cover i = fault.NotACover i
 no_answer _ i = fault.NotAnAnswer i

@@ -30,7 +30,7 @@ impl Model for CivilDay {
 }
 
 impl CivilDay {
-    /// The day that a text in the form YYYY-MM-DD writes.
+    /// The day that a text YYYY-MM-DD writes in a part's answer to `days`.
     pub(crate) fn of_text(text: &str) -> Option<CivilDay>
         ensures { (day : ℤ) → IsDayText day text.now → result ≡ Some day }
     {
@@ -42,7 +42,7 @@ impl CivilDay {
         }
     }
 
-    /// The date.
+    /// The date of a day in a part's answer to `days`.
     fn date(self) -> civil::Date
         ensures { epoch_day result ≡ self }
     {
@@ -50,7 +50,7 @@ impl CivilDay {
         civil::Date::from_plain(date)
     }
 
-    /// The day as YYYY-MM-DD.
+    /// The day as YYYY-MM-DD, as an answer combined from parts prints it.
     pub(crate) fn text(self, alloc: Global) -> Result<String, AllocError>
         ensures { IfOk result (λ t. IsDayText self (string_bytes t)) }
     {

@@ -24,13 +24,13 @@ pub(crate) trait CountRow: Drop {
     /// The text tells the rows.
     ghost tells: { List ℕ → List Self → Type 0 };
 
-    /// The rows that a text tells, where it tells any.
+    /// The rows that a part's answer tells, where it tells any.
     fn read_text(alloc: Global, text: &str) -> Result<Option<List<Self>>, AllocError>
         ensures some { IfOk result (λ o. IfSome o (tells text.now)) }
         ensures none { IfOk result (λ o. IfNone o (TellsNoRows tells text.now)) };
 }
 
-/// The rows that the answers of all parts tell, part by part.
+/// The rows of counts that the answers of all parts tell, part by part.
 pub(crate) fn read_counts<R: CountRow>(
     alloc: Global,
     answers: &[&str],
@@ -49,7 +49,7 @@ pub(crate) fn read_counts<R: CountRow>(
     Ok(all)
 }
 
-/// Adds to the count of a key. Time logarithmic in the keys.
+/// Adds a part's count to the sum of a key. Time logarithmic in the keys.
 pub(crate) fn add<K: Ord + Drop>(
     table: &mut BTreeMap<K, u64>,
     key: K,
@@ -72,7 +72,7 @@ pub(crate) fn add<K: Ord + Drop>(
     Ok(())
 }
 
-/// The summaries that stand beside the answers, one each: no source has numbers in two of them.
+/// The summaries in `cover` beside the answers of parts, one each: no source has numbers in two.
 pub(crate) fn read_beside(
     alloc: Global,
     answers: &[&str],
@@ -95,7 +95,7 @@ pub(crate) fn read_beside(
     Ok(summaries)
 }
 
-/// Whether the covers stand beside the answers, one each, and no source stands in two of them.
+/// Whether the covers of parts stand beside their answers, one each, with no source in two of them.
 pub(crate) fn check_beside(
     alloc: Global,
     answers: &[&str],

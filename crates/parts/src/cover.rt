@@ -16,7 +16,7 @@ use std::alloc::{AllocError, Global};
 use views::laws::answers_are_alike;
 use views::{Answer, print};
 
-/// The summary of a version that a text tells in a line, where it does.
+/// The summary of a version that a part's text tells in a line, where it does.
 pub(crate) fn read_of_version(
     alloc: Global,
     text: &str,
@@ -46,7 +46,7 @@ pub(crate) fn read_of_version(
     }
 }
 
-/// The summaries that texts answer `cover` with.
+/// The summaries that the texts of parts answer `cover` with.
 pub(crate) fn read_covers(alloc: Global, covers: &[&str]) -> Result<Vec<Summary>, CombineFault>
     ensures read { IfOk result (λ v. AreCovers (map (λ t. t.now) covers.now) v.items) }
     ensures refused { IfErr result (RefusesCovers (map (λ t. t.now) covers.now)) }
@@ -72,7 +72,7 @@ fn has_source(summary: &Summary, source: &str) -> bool
     }
 }
 
-/// A source that has numbers in both summaries, where there is one: the first in byte order.
+/// A source with numbers in the summaries of two parts, if there is one: the first in byte order.
 fn shared_source(
     alloc: Global,
     first: &Summary,
@@ -127,7 +127,7 @@ pub(crate) fn check_apart(alloc: Global, summaries: &[Summary]) -> Result<(), Co
     Ok(())
 }
 
-/// What all of the summaries hold, as one of version 1.
+/// What all of the parts' summaries hold, as one of version 1.
 pub(crate) fn unite(alloc: Global, summaries: &[Summary]) -> Result<Summary, AllocError>
     ensures first { IfOk result (λ all. IsOfFirstVersion all) }
     ensures united { IfOk result (HoldsUnion summaries.now) }

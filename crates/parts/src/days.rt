@@ -27,7 +27,7 @@ use std::collections::BTreeMap;
 /// A type and a day, and how many events have both.
 type DayCount = ((Text, CivilDay), u64);
 
-/// The type, the day and the count that a line tells.
+/// The type, the day and the count that a line of a part's answer tells.
 fn read_day(alloc: Global, line: &str) -> Result<Option<DayCount>, AllocError>
     ensures { IfOk result (λ o. (row : (List ℕ × ℤ) × ℕ) (day : List ℕ) → IsCounted row
         → IsDayText row.0.1 day → line.now ≡ compact_text (day_data row.0.0 day row.1)
@@ -66,7 +66,7 @@ impl Row for DayCount {
     }
 }
 
-/// Whether a row comes before another by type, then day.
+/// Whether a row of a part's answer to `days` comes before another by type, then day.
 fn is_before(row: &DayCount, other: &DayCount) -> bool
     ensures { IsTrue result ↔ (day_cmp row.now.0 other.now.0 ≡ Less) }
 {
@@ -74,7 +74,7 @@ fn is_before(row: &DayCount, other: &DayCount) -> bool
     kinds.then(row.0.1.cmp(&other.0.1)).is_lt()
 }
 
-/// Whether each type and day comes after the one before, and each count is 1 at least.
+/// Whether in a part's rows each type and day comes after the one before, each count at least 1.
 fn are_counts(rows: &List<DayCount>) -> bool
     ensures { IsTrue result ↔ AreCounts day_cmp rows.now }
 {
@@ -89,7 +89,7 @@ fn are_counts(rows: &List<DayCount>) -> bool
     true
 }
 
-/// The text `["TYPE","YYYY-MM-DD",N]`.
+/// The text `["TYPE","YYYY-MM-DD",N]` in an answer that parts combine to.
 fn row_text(alloc: Global, kind: &str, day: &str, count: u64) -> Result<Text, AllocError>
     ensures { IfOk result (λ t. t ≡ compact_text (day_data kind.now day.now count)) }
 {
@@ -103,7 +103,7 @@ fn row_text(alloc: Global, kind: &str, day: &str, count: u64) -> Result<Text, Al
     Ok(Text::from_string(text))
 }
 
-/// Adds a line.
+/// Adds a line to an answer that parts combine to.
 fn end_line(out: &mut String, text: &str) -> Result<(), AllocError>
     ensures { OnOk result (string_bytes out.new ≡ string_bytes out.old ++ line text.now) }
 {
@@ -111,7 +111,7 @@ fn end_line(out: &mut String, text: &str) -> Result<(), AllocError>
     out.push_str("\n")
 }
 
-/// Adds the line of a type and a day.
+/// Adds the line of a type and a day to an answer that parts combine to.
 fn add_line(alloc: Global, out: &mut String, row: &DayCount) -> Result<(), AllocError>
     ensures { OnOk result ((l : List ℕ) × IsDayLine row.now l
         × (string_bytes out.new ≡ string_bytes out.old ++ l)) }
@@ -121,7 +121,7 @@ fn add_line(alloc: Global, out: &mut String, row: &DayCount) -> Result<(), Alloc
     end_line(out, text.as_str())
 }
 
-/// For each row `["TYPE","YYYY-MM-DD",N]` in a line.
+/// For each row of parts or their sums `["TYPE","YYYY-MM-DD",N]` in a line.
 fn print_days(alloc: Global, rows: &List<DayCount>) -> Result<Text, AllocError>
     ensures { IfOk result (AreDayLines rows.now) }
 {
@@ -132,7 +132,7 @@ fn print_days(alloc: Global, rows: &List<DayCount>) -> Result<Text, AllocError>
     Ok(Text::from_string(out))
 }
 
-/// The types, days and counts that a text tells, where it is such an answer.
+/// The types, days and counts that a part's text tells, where it is such an answer.
 fn read_days(alloc: Global, text: &str) -> Result<Option<List<DayCount>>, AllocError>
     ensures some { IfOk result (λ o. IfSome o (AreDays text.now)) }
     ensures none { IfOk result (λ o. IfNone o (TellsNoRows AreDays text.now)) }
@@ -162,7 +162,7 @@ impl CountRow for DayCount {
     }
 }
 
-/// The sums of the counts of each type and day.
+/// The sums over all parts of the counts of each type and day.
 fn sum_days(alloc: Global, rows: &[DayCount]) -> Result<List<DayCount>, CombineFault>
     ensures sums { IfOk result (λ sums. sums ≡ added day_cmp rows.now) }
     ensures err { IfErr result (RefusesSums day_cmp rows.now) }
@@ -174,7 +174,7 @@ fn sum_days(alloc: Global, rows: &[DayCount]) -> Result<List<DayCount>, CombineF
     Ok(listed_days(alloc, &table)?)
 }
 
-/// The rows of a table of types and days.
+/// The rows of the table of types and days that sums the parts.
 fn listed_days(
     alloc: Global,
     table: &BTreeMap<(&str, CivilDay), u64>,
@@ -188,7 +188,7 @@ fn listed_days(
     Ok(rows)
 }
 
-/// The sums of the counts that the answers of all parts tell, in lines.
+/// The sums of the counts by day that the answers of all parts tell, in lines.
 fn sum_answers(alloc: Global, answers: &[&str]) -> Result<Text, CombineFault>
     ensures summed { IfOk result (IsSummed AreDays day_cmp AreDayLines
         (map (λ t. t.now) answers.now)) }

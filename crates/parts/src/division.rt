@@ -50,7 +50,7 @@ pub fn split(alloc: Global, events: Batch, count: u64) -> Result<Vec<Batch>, All
     Ok(parts)
 }
 
-/// So many batches without events.
+/// So many batches without events, one for each part of a region.
 fn empty_parts(alloc: Global, count: u64) -> Result<Vec<Batch>, AllocError>
     requires { IsCountOfParts count }
     ensures len { IfOk result (λ parts. vec_len parts ≡ count) }

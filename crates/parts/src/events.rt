@@ -16,7 +16,7 @@ use event_json::{ReadFault, read_events, readings_are_one, texts_read_back};
 use serde_json::Value;
 use std::alloc::{AllocError, Global};
 
-/// The event with a number that stands alone in a list.
+/// The event with a number that stands alone in a list, read from a line of a part.
 fn lone(list: Events) -> Option<Sequenced>
     ensures { (e : EventValue) (n : ℕ) → list ≡ e ∷ [] → number_of e ≡ Some n
         → result ≡ Some e }
@@ -31,7 +31,7 @@ fn lone(list: Events) -> Option<Sequenced>
     }
 }
 
-/// The event with a number whose canonical text a line is.
+/// The event with a number whose canonical text a line of a part's answer is.
 fn read_event(alloc: Global, line: &str) -> Result<Option<Sequenced>, AllocError>
     ensures { IfOk result (λ o. (e : EventValue) (n : ℕ) → IsEvent e → number_of e ≡ Some n
         → line.now ≡ text e → o ≡ Some e) }
@@ -59,7 +59,7 @@ impl Row for Sequenced {
     }
 }
 
-/// The events whose canonical texts the items are.
+/// The events whose canonical texts the items in a part's conflict are.
 fn read_items(alloc: Global, items: &[Value]) -> Result<Option<List<Sequenced>>, AllocError>
     ensures { IfOk result (λ o. (es : List EventValue) → AllByRecursion IsSequenced es
         → items_view items.now ≡ items_of (map event_data es) → o ≡ Some es) }
@@ -75,7 +75,7 @@ fn read_items(alloc: Global, items: &[Value]) -> Result<Option<List<Sequenced>>,
     Ok(Some(events))
 }
 
-/// The events of a conflict whose line it is.
+/// The events of a conflict of which a part's answer has the line.
 fn read_conflict(alloc: Global, line: &str) -> Result<Option<List<Sequenced>>, AllocError>
     ensures { IfOk result (λ o. (c : Conflict) → AllByRecursion IsSequenced c.events
         → line.now ≡ compact_text (conflict_data c) → o ≡ Some c.events) }

@@ -21,7 +21,7 @@ use std::alloc::{AllocError, Global};
 use views::laws::answers_are_alike;
 use views::{Answer, Gaps, print};
 
-/// Adds a source with what is missing of its numbers, if anything is.
+/// Adds a source of a part with what is missing of its numbers, if anything is.
 fn add_gaps(
     alloc: Global,
     rows: &mut Gaps,
@@ -39,7 +39,7 @@ fn add_gaps(
     Ok(())
 }
 
-/// What sources lack of their numbers, without those that lack nothing.
+/// What the sources of a part lack of their numbers, without those that lack nothing.
 fn gaps_of(alloc: Global, entries: &[(&str, &Intervals)]) -> Result<Gaps, AllocError>
     ensures { IfOk result (AreGapsOf (map deref_pair entries.now)) }
 {
@@ -50,7 +50,7 @@ fn gaps_of(alloc: Global, entries: &[(&str, &Intervals)]) -> Result<Gaps, AllocE
     Ok(rows)
 }
 
-/// The gaps of the sets that have just the numbers of the summary, in lines.
+/// The gaps of a part whose events have just the numbers of its summary, in lines.
 fn gaps_text(alloc: Global, summary: &Summary) -> Result<Text, AllocError>
     ensures { IfOk result (TellsGaps summary.now) }
 {
@@ -59,7 +59,7 @@ fn gaps_text(alloc: Global, summary: &Summary) -> Result<Text, AllocError>
     print(alloc, &Answer::Gaps(rows))
 }
 
-/// Whether a text answers `gaps` over the sets that have just the numbers of the summary.
+/// Whether a part's text answers `gaps` over the sets that have just the numbers of its summary.
 fn tells_gaps(alloc: Global, text: &str, summary: &Summary) -> Result<bool, AllocError>
     ensures some { IfOk result (λ b. b ≡ true → TellsGaps summary.now text.now) }
     ensures none { IfOk result (λ b. b ≡ false → TellsOther summary.now text.now) }
@@ -70,8 +70,8 @@ fn tells_gaps(alloc: Global, text: &str, summary: &Summary) -> Result<bool, Allo
     Ok(own.as_str() == text)
 }
 
-/// Whether each text answers `gaps` over the sets that have just the numbers of the summary at its
-/// place; else the first that doesn't.
+/// Whether each part's text answers `gaps` over the sets that have just the numbers of the summary
+/// at its place; else the first that doesn't.
 fn check_gaps(alloc: Global, texts: &[&str], summaries: &[Summary]) -> Result<(), CombineFault>
     requires { length texts.now ≡ length summaries.now }
     ensures told { OnOk result (AreGapTexts (map (λ t. t.now) texts.now) summaries.now) }

@@ -23,7 +23,7 @@ use std::alloc::{AllocError, Global};
 use std::collections::BTreeMap;
 use views::{Answer, KindCount, Kinds, print};
 
-/// The type and the count that a line tells.
+/// The type and the count that a line of a part's answer tells.
 fn read_kind(alloc: Global, line: &str) -> Result<Option<KindCount>, AllocError>
     ensures { IfOk result (λ o. (row : List ℕ × ℕ) → IsCounted row
         → line.now ≡ compact_text (kind_data row.0 row.1) → o ≡ Some row) }
@@ -53,14 +53,14 @@ impl Row for KindCount {
     }
 }
 
-/// Whether a row comes before another, by type as bytes.
+/// Whether a row of a part's answer to `kinds` comes before another, by type as bytes.
 fn is_before(row: &KindCount, other: &KindCount) -> bool
     ensures { IsTrue result ↔ (byte_cmp row.now.0 other.now.0 ≡ Less) }
 {
     row.0.as_str() < other.0.as_str()
 }
 
-/// Whether each type comes after the one before, as bytes, and each count is 1 at least.
+/// Whether in a part's rows each type comes after the one before, as bytes, each count at least 1.
 fn are_counts(rows: &Kinds) -> bool
     ensures { IsTrue result ↔ AreCounts byte_cmp rows.now }
 {
@@ -75,7 +75,7 @@ fn are_counts(rows: &Kinds) -> bool
     true
 }
 
-/// The types and counts of an answer to `kinds`.
+/// The types and counts of a part's answer to `kinds`.
 fn kinds_in(answer: Answer) -> Option<Kinds>
     ensures { (rows : List (List ℕ × ℕ)) → answer ≡ answer_of.Kinds rows → result ≡ Some rows }
 {
@@ -85,7 +85,7 @@ fn kinds_in(answer: Answer) -> Option<Kinds>
     }
 }
 
-/// The types and counts that a text tells, where it is such an answer.
+/// The types and counts that a part's text tells, where it is such an answer.
 fn read_kinds(alloc: Global, text: &str) -> Result<Option<Kinds>, AllocError>
     ensures some { IfOk result (λ o. IfSome o (AreKinds text.now)) }
     ensures none { IfOk result (λ o. IfNone o (TellsNoRows AreKinds text.now)) }
@@ -116,7 +116,7 @@ impl CountRow for KindCount {
     }
 }
 
-/// The sums of the counts of each type.
+/// The sums over all parts of the counts of each type.
 fn sum_kinds(alloc: Global, rows: &[KindCount]) -> Result<Kinds, CombineFault>
     ensures sums { IfOk result (λ sums. sums ≡ added byte_cmp rows.now) }
     ensures err { IfErr result (RefusesSums byte_cmp rows.now) }
@@ -128,7 +128,7 @@ fn sum_kinds(alloc: Global, rows: &[KindCount]) -> Result<Kinds, CombineFault>
     Ok(listed_kinds(alloc, &table)?)
 }
 
-/// The rows of a table of types.
+/// The rows of the table of types that sums the parts.
 fn listed_kinds(alloc: Global, table: &BTreeMap<&str, u64>) -> Result<Kinds, AllocError>
     ensures { IfOk result (λ rows. rows ≡ map (λ e. (e.0.now, e.1)) table.now.entries) }
 {
@@ -139,7 +139,7 @@ fn listed_kinds(alloc: Global, table: &BTreeMap<&str, u64>) -> Result<Kinds, All
     Ok(rows)
 }
 
-/// The sums of the counts that the answers of all parts tell, in lines.
+/// The sums of the counts by type that the answers of all parts tell, in lines.
 fn sum_answers(alloc: Global, answers: &[&str]) -> Result<Text, CombineFault>
     ensures summed { IfOk result (IsSummed AreKinds byte_cmp AreKindLines
         (map (λ t. t.now) answers.now)) }

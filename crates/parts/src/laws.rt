@@ -10,12 +10,12 @@ pub fn numbers_part()
     ensures { NumbersOfPart }
 {}
 
-/// The shown events of a part are those of the whole whose source falls to it.
+/// The shown events of a region's part are those of the whole whose source falls to it.
 pub fn shown_part()
     ensures { ShownPart }
 {}
 
-/// And so are its conflicts.
+/// The conflicts of a region's part are those of the whole whose source falls to it.
 pub fn conflicts_part()
     ensures { ConflictsPart }
 {}

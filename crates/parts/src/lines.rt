@@ -21,12 +21,12 @@ pub(crate) trait Row {
     /// The line is the row's.
     ghost is_line: { Self → List ℕ → Type 0 };
 
-    /// The row of a line, where it is the line of one.
+    /// The row of a line of a part's answer, where it is the line of one.
     fn read(alloc: Global, line: &str) -> Result<Option<Self>, AllocError>
         ensures { IfOk result (λ o. (row : Self) → is_line row line.now → o ≡ Some row) };
 }
 
-/// The rows of which a text has the lines, in their order.
+/// The rows of which a part's answer has the lines, in their order.
 pub(crate) fn read_rows<R: Row + Drop>(
     alloc: Global,
     text: &str,
@@ -46,7 +46,7 @@ pub(crate) fn read_rows<R: Row + Drop>(
     Ok(Some(rows))
 }
 
-/// Adds values at the end.
+/// Adds values that the answers of parts tell at the end of others.
 pub(crate) fn append<R: Drop>(all: &mut List<R>, more: List<R>) -> Result<(), AllocError>
     ensures { OnOk result (all.new ≡ all.old ++ more) }
 {
@@ -56,7 +56,7 @@ pub(crate) fn append<R: Drop>(all: &mut List<R>, more: List<R>) -> Result<(), Al
     Ok(())
 }
 
-/// The value that a line is the compact text of, where it is that of one.
+/// The JSON value that a line of a part's answer is the compact text of, if it is that of one.
 pub(crate) fn read_value(alloc: Global, line: &str) -> Result<Option<Value>, AllocError>
     ensures { IfOk result (λ o. (d : Data) → IsExact d → depth d ≤ max_depth
         → line.now ≡ compact_text d → option_map view o ≡ Some d) }
@@ -72,7 +72,7 @@ pub(crate) fn read_value(alloc: Global, line: &str) -> Result<Option<Value>, All
     }
 }
 
-/// The text at a place of an array, where one stands there.
+/// The text at a place of an array in a part's answer, where one stands there.
 pub(crate) fn word_at(value: &Value, place: usize) -> Option<&str>
     ensures { option_map (λ s. s.now) result ≡ option_and_then as_str (at place (view value.now)) }
 {
@@ -82,7 +82,7 @@ pub(crate) fn word_at(value: &Value, place: usize) -> Option<&str>
     }
 }
 
-/// The whole number from 0 to 2^64 - 1 at a place of an array, where one stands there.
+/// The whole number from 0 to 2^64 - 1 at a place of an array in a part's answer, if one is there.
 pub(crate) fn whole_at(value: &Value, place: usize) -> Option<u64>
     ensures { result ≡ option_and_then (λ d. option_and_then as_u64 (as_number d))
         (at place (view value.now)) }

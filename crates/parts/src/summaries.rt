@@ -13,7 +13,7 @@ use coverage::Summary;
 use coverage::laws::texts_tell_summaries;
 use std::alloc::{AllocError, Global};
 
-/// The summaries of version 2 that texts tell, each in a line.
+/// The summaries of version 2 that the texts of parts tell, each in a line.
 fn read_summaries(alloc: Global, texts: &[&str]) -> Result<Vec<Summary>, CombineFault>
     ensures read { IfOk result (λ v. AreSummaryLines (map (λ t. t.now) texts.now) v.items) }
     ensures refused { IfErr result (RefusesSummaries (map (λ t. t.now) texts.now)) }
@@ -29,7 +29,7 @@ fn read_summaries(alloc: Global, texts: &[&str]) -> Result<Vec<Summary>, Combine
     Ok(summaries)
 }
 
-/// What all of the summaries tell, each source as the one that has it does.
+/// What all summaries of parts tell, each source as the one that has it does.
 fn join_all(alloc: Global, summaries: &[Summary]) -> Result<Summary, AllocError>
     requires { AllByRecursion IsSecond summaries.now }
     ensures second { IfOk result (λ all. IsSecond all) }
@@ -43,7 +43,7 @@ fn join_all(alloc: Global, summaries: &[Summary]) -> Result<Summary, AllocError>
     Ok(all)
 }
 
-/// The text of a summary, in a line.
+/// The text of the summary that parts combine to, in a line.
 fn print_summary(summary: &Summary) -> Result<Text, AllocError>
     ensures { IfOk result (λ t. t ≡ summary_line summary.now) }
 {

@@ -23,7 +23,7 @@ use std::alloc::{AllocError, Global};
 use views::laws::answers_are_alike;
 use views::{Answer, Query, answer, answer_lines};
 
-/// The set of copies of events.
+/// The set of copies of events that a part's answer tells.
 fn set_of_copies(alloc: Global, list: &[Sequenced]) -> Result<Inbox, AllocError>
     ensures set { IfOk result (λ inbox. events inbox ≡ set_of list.now) }
     ensures events { IfOk result (λ inbox. AreEvents inbox.arrivals) }
@@ -39,7 +39,7 @@ fn set_of_copies(alloc: Global, list: &[Sequenced]) -> Result<Inbox, AllocError>
     Ok(inbox)
 }
 
-/// The events of lists, one list behind the other.
+/// The events of conflicts that a part's answer tells, one list behind the other.
 fn flatten(alloc: Global, lists: List<List<Sequenced>>) -> Result<List<Sequenced>, AllocError>
     ensures { IfOk result (λ all. all ≡ flat_map (λ events. events) lists) }
 {
@@ -50,7 +50,7 @@ fn flatten(alloc: Global, lists: List<List<Sequenced>>) -> Result<List<Sequenced
     Ok(all)
 }
 
-/// The events that a text tells in its lines, where it answers `conflicts` over some set.
+/// The events that a part tells in its lines, where its text answers `conflicts` over some set.
 fn read_conflicts(alloc: Global, text: &str) -> Result<Option<List<Sequenced>>, AllocError>
     ensures { IfOk result (λ o. (E : List EventValue) → IsHeld E
         → IsAnswer query.Conflicts E text.now → o ≡ Some (events_told query.Conflicts E)) }
@@ -63,7 +63,7 @@ fn read_conflicts(alloc: Global, text: &str) -> Result<Option<List<Sequenced>>, 
     Ok(Some(flatten(alloc, rows)?))
 }
 
-/// The events that a text tells in its lines, where it answers the question over some set.
+/// The events that a part's text tells in its lines, if it answers the question over some set.
 fn read_told(alloc: Global, query: Query, text: &str) -> Result<Option<List<Sequenced>>, AllocError>
     requires { IsOfEvents query }
     ensures { IfOk result (λ o. (E : List EventValue) → IsHeld E → IsAnswer query E text.now
@@ -77,7 +77,7 @@ fn read_told(alloc: Global, query: Query, text: &str) -> Result<Option<List<Sequ
     }
 }
 
-/// The set of the events that a text tells, where it answers the question over some set.
+/// The set of the events that a part's text tells, if it answers the question over some set.
 fn read_part(alloc: Global, query: Query, text: &str) -> Result<Option<Inbox>, AllocError>
     requires { IsOfEvents query }
     ensures some { IfOk result (λ o. IfSome o (λ inbox. TellsSet query text.now (events inbox))) }
@@ -97,7 +97,7 @@ fn read_part(alloc: Global, query: Query, text: &str) -> Result<Option<Inbox>, A
     Ok(Some(inbox))
 }
 
-/// Which numbers the events of a set have.
+/// Which numbers the events of a set that a part tells have.
 fn cover_of(alloc: Global, inbox: &Inbox) -> Result<Summary, AllocError>
     ensures { IfOk result (Sums (events inbox.now)) }
 {
@@ -114,7 +114,7 @@ struct Gathered {
     covers: Vec<Summary>,
 }
 
-/// What the texts tell, each of which has to answer the question over some set.
+/// What the texts of parts tell, each of which has to answer the question over some set.
 fn gather(alloc: Global, query: Query, texts: &[&str]) -> Result<Gathered, CombineFault>
     requires { IsOfEvents query }
     ensures ok { IfOk result (λ g. AreGathered query (map (λ t. t.now) texts.now) (events g.all)
@@ -175,7 +175,7 @@ fn tell_together(alloc: Global, query: Query, answers: &[&str]) -> Result<Text, 
     Ok(answer_lines(alloc, &gathered.all, query)?)
 }
 
-/// Whether no source stands in two of the texts.
+/// Whether no source stands in the texts of two parts.
 fn check_told(
     alloc: Global,
     query: Query,

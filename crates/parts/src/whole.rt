@@ -64,7 +64,7 @@ pub fn combine(
     }
 }
 
-/// `combine_events`, with a cover beside each answer.
+/// `combine_events`, with a part's cover beside each of the parts' answers.
 fn combine_beside(
     alloc: Global,
     query: Query,
@@ -95,7 +95,7 @@ pub fn has_covers(query: Query) -> bool
     }
 }
 
-/// The fault of an answer that is none to the question.
+/// The fault of a part's answer that is none to the question.
 pub fn no_answer(query: Query, part: u64) -> CombineFault
     ensures { result ≡ no_answer query part }
 {

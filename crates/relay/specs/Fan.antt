@@ -10,29 +10,29 @@ use Rattle.relay.specs.declared.fault.RelayFault.TheVariants.{OutOfMemory, Route
 use Rattle.relay.specs.declared.fan.End.{End}
 use Rattle.relay.specs.declared.fan.End.TheVariants.{Done, Failed}
 
--- the row with this number, of rows that have the numbers after the base
+-- the outbox's row with this number, for a route, of rows that have the numbers after the base
 abbrev pub IsRow : ℕ → List EventValue → ℕ → EventValue → Type 0
 IsRow base rows number e = (base < number) × (slice_get rows (number - suc base) ≡ Some e)
 
--- the rows with a number above `from`, up to `to`, are among the events
+-- the rows with a number above `from`, up to `to`, are among the route's events
 abbrev pub AreSent : ℕ → List EventValue → ℕ → ℕ → List EventValue → Type 0
 AreSent base rows from to events = (number : ℕ) (e : EventValue)
     → from < number → number ≤ to → IsRow base rows number e → Has events e
 
--- no row has a number above the mark
+-- no row of the outbox has a number above the relay's mark
 abbrev pub IsAtEnd : ℕ → List EventValue → ℕ → Type 0
 IsAtEnd base rows mark = (number : ℕ) (e : EventValue) → IsRow base rows number e → number ≤ mark
 
--- the rows with a number above `from`, up to `to`, in their order
+-- the outbox's rows for a route with a number above `from`, up to `to`, in their order
 abbrev pub rows_between : ℕ → List EventValue → ℕ → ℕ → List EventValue
 rows_between base rows from to = drop (from - base) (take (to - base) rows)
 
--- the pages one after another
+-- a relay's pages one after another
 abbrev pub joined : List (List EventValue) → List EventValue
 joined [] = []
 joined (page ∷ pages) = page ++ joined pages
 
--- what is sent at once: at least one row, at most a page
+-- what is sent to a route at once: at least one row, at most a page
 abbrev pub IsPage : List EventValue → Type 0
 IsPage page = (0 < length page) × (length page ≤ max_page)
 
@@ -53,12 +53,12 @@ HasCauseOfFault has_failed before route Store = route ≡ before
 HasCauseOfFault has_failed before route NoThread = route ≡ before
 HasCauseOfFault has_failed before route GateShut = route ≡ before
 
--- what an end did to a route
+-- what an end of a lane did to its route
 abbrev pub EndsAtRoute : {R : Type 0} → (R → R → Type 0) → R → R → End → Type 0
 EndsAtRoute has_failed before route Done = route ≡ before
 EndsAtRoute has_failed before route (Failed f) = HasCauseOfFault has_failed before route f
 
--- the calls of a worker that ended so: one for each page that was accepted, and the one that failed
+-- the calls of a worker whose lane ended so: one for each accepted page, and the one that failed
 abbrev pub calls_until : End → ℕ → ℕ
 calls_until Done pages = pages
 calls_until (Failed OutOfMemory) pages = pages
@@ -114,7 +114,7 @@ pub record Delivers {R : Type 0} (accepted : R → List EventValue)
   pub reached : (new.mark ≡ old.mark) ⊎ (new.mark ≤ base + length rows)
   pub done : end ≡ Done → IsAtEnd base rows new.mark
 
--- this holds at each place: of a relay before and after, its route before and after, and its end
+-- this holds at each place of a fan-out: of a relay before and after, its route, and its end
 abbrev pub AtEach : {R : Type 0} → List RelayMark → List RelayMark → List R → List R → List End
     → (ℕ → RelayMark → RelayMark → R → R → End → Type 0) → Type 0
 AtEach {R} olds news routes backs ends Holds =

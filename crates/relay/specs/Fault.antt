@@ -5,7 +5,7 @@ use Rattle.outbox.specs.declared.fault.OutboxFault.TheVariants as outbox
 use Rattle.relay.specs.declared.fault.RelayFault.{RelayFault}
 use Rattle.relay.specs.declared.fault.RelayFault.TheVariants.{OutOfMemory, RouteFailed, Stranger, Store, NoThread, GateShut}
 
--- the number that a fault is known by
+-- the number that a relay's fault is known by
 abbrev pub fault_number : RelayFault → ℕ
 fault_number OutOfMemory = 1
 fault_number RouteFailed = 2

@@ -12,18 +12,18 @@ use Rattle.outbox.specs.Service.{IsService}
 use Rattle.relay.specs.Route.{AreIn, KeptRoute}
 use Rattle.relay.specs.declared.relay.Job.{Job}
 
--- the number of the last event, or this one where there is none
+-- the relay's last number: of the last event, or this one where there is none
 abbrev pub IsLast : ℕ → List EventValue → ℕ → Type 0
 IsLast mark [] last = last ≡ mark
 IsLast mark (e ∷ []) last = number_of e ≡ Some last
 IsLast mark (e ∷ f ∷ events) last = IsLast mark (f ∷ events) last
 
--- the next rows after the mark, at most a page, of a service with this source and base
+-- the rows after the relay's mark, at most a page, of a service with this source and base
 abbrev pub ForNextRows : List ℕ → ℕ → ℕ → Database → (List EventValue → Type 0) → Type 0
 ForNextRows source base mark db Holds = (commands : List Accepted)
     → IsService db source base commands → Holds (rows_after source base commands mark max_page)
 
--- the next rows, so many, are among those that the route has accepted, and this is the last number
+-- the next rows, so many, are among those the route has accepted, and this is the last number
 abbrev pub Sends : List EventValue → ℕ → ℕ → ℕ → List EventValue → Type 0
 Sends accepted mark count last rows =
     (count ≡ length rows) × AreIn rows accepted × IsLast mark rows last
@@ -34,7 +34,7 @@ abbrev pub HandsOn : {R : Type 0} → (R → List EventValue → R → Type 0) �
     → Type 0
 HandsOn takes old new rows = ((rows ≡ []) × (new ≡ old)) ⊎ takes old rows new
 
--- the job has the rows, and there is none exactly where there are no rows
+-- a relay's job has the rows, and there is none exactly where there are no rows
 abbrev pub HasRows : Option Job → List EventValue → Type 0
 HasRows job rows = MatchOption job (rows ≡ []) (λ j. (j.rows ≢ []) × (j.rows ≡ rows))
 

@@ -78,7 +78,7 @@ struct Shared {
     told: Receiver<u64, Global>,
 }
 
-/// A flag for each of so many lanes, and a channel with room for them. None for want of memory.
+/// A flag for each of so many route lanes, a channel with room for them. None for want of memory.
 fn shared_for(alloc: Global, count: usize) -> Option<Shared>
     ensures { IfSome result (λ s. length s.refused.items ≡ count) }
 {
@@ -100,7 +100,7 @@ fn shared_for(alloc: Global, count: usize) -> Option<Shared>
     }
 }
 
-/// Room for so many lanes. None for want of memory.
+/// Room for so many lanes of a fan-out to routes. None for want of memory.
 fn room_for<R: Route + Drop, G: Gate>(alloc: Global, count: usize) -> Option<Room<R, G>>
     ensures empty { IfSome result (λ r. (r.lanes.items ≡ []) × (r.slots.items ≡ [])
         × (r.ended.items ≡ []) × (r.routes.items ≡ []) × (r.ends.items ≡ [])) }
@@ -137,7 +137,7 @@ fn room_for<R: Route + Drop, G: Gate>(alloc: Global, count: usize) -> Option<Roo
     }
 }
 
-/// Adds a value where there is room for it.
+/// Adds a value of a fan-out's lanes where there is room for it.
 fn put<T: Drop>(list: &mut Vec<T>, value: T)
     requires { vec_len list.old < vec_capacity list.old }
     ensures items { list.new.items ≡ list.old.items ++ value ∷ [] }
@@ -148,7 +148,7 @@ fn put<T: Drop>(list: &mut Vec<T>, value: T)
     };
 }
 
-/// A lane for each relay and its route, in the room that was made for them.
+/// A fan-out's lane for each relay and its route, in the room that was made for them.
 fn lanes_of<R: Drop>(relays: &Relays, routes: Routes<R>, room: Vec<Lane<R>>) -> Vec<Lane<R>>
     requires paired { length relays.now.items ≡ length routes.items }
     requires empty { room.items ≡ [] }
@@ -176,7 +176,7 @@ fn lanes_of<R: Drop>(relays: &Relays, routes: Routes<R>, room: Vec<Lane<R>>) -> 
     lanes
 }
 
-/// The lanes, each waiting to go on, in the room that was made for them.
+/// The lanes of a fan-out, each waiting to go on, in the room that was made for them.
 fn slots_of<R: Route + Drop, G: Gate>(lanes: Vec<Lane<R>>, room: Vec<Slot<R, G>>) -> Vec<Slot<R, G>>
     requires empty { room.items ≡ [] }
     requires room { length lanes.items ≤ vec_capacity room }
@@ -189,7 +189,7 @@ fn slots_of<R: Route + Drop, G: Gate>(lanes: Vec<Lane<R>>, room: Vec<Slot<R, G>>
     slots
 }
 
-/// The lanes once all have ended, in the room that was made for them.
+/// The lanes of a fan-out once all have ended, in the room that was made for them.
 fn lanes_back<R: Route + Drop, G: Gate>(slots: Vec<Slot<R, G>>, room: Vec<Lane<R>>) -> Vec<Lane<R>>
     requires ended { All IsEnded slots.items }
     requires empty { room.items ≡ [] }
@@ -206,7 +206,7 @@ fn lanes_back<R: Route + Drop, G: Gate>(slots: Vec<Slot<R, G>>, room: Vec<Lane<R
     lanes
 }
 
-/// How a lane ended.
+/// How a fan-out's lane to its route ended.
 fn end_at<R>(lane: &Lane<R>) -> End
     ensures { result ≡ end_of_lane lane.now }
 {
@@ -216,7 +216,7 @@ fn end_at<R>(lane: &Lane<R>) -> End
     }
 }
 
-/// The relays, routes and ends of the lanes, in the room that was made for them.
+/// The relays, routes and ends of a fan-out's lanes, in the room that was made for them.
 fn settle<R: Drop>(
     lanes: Vec<Lane<R>>,
     relays: &mut Relays,

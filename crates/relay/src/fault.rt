@@ -31,7 +31,7 @@ pub enum RelayFault {
 }
 
 impl RelayFault {
-    /// The number that the fault is known by, 1 to 6.
+    /// The number that the fault of a relay is known by, 1 to 6.
     pub fn number(self) -> u8
         ensures { result ≡ fault_number self }
     {
@@ -46,7 +46,7 @@ impl RelayFault {
     }
 }
 
-/// The fault of a relay whose service refused.
+/// The fault of a relay to a route whose service refused.
 pub(crate) fn fault_of(fault: OutboxFault) -> RelayFault
     ensures kind { (result ≡ OutOfMemory) ⊎ (result ≡ Store) }
     ensures exact { result ≡ of_outbox fault }

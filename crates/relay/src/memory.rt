@@ -27,7 +27,7 @@ impl Model for MemoryRoute {
     ghost view = { λ r. record { events = r.events; failures = r.failures } };
 }
 
-/// Appends a copy of an event.
+/// Appends a copy of an event to what a memory route accepted.
 fn append(events: &mut Batch, event: &Sequenced) -> Result<(), AllocError>
     ensures ok { OnOk result (events.new ≡ events.old ++ event.now ∷ []) }
     ensures err { OnErr result (events.new ≡ events.old) }
@@ -37,7 +37,7 @@ fn append(events: &mut Batch, event: &Sequenced) -> Result<(), AllocError>
     Ok(())
 }
 
-/// Appends copies of the events, up to the first that memory is refused for.
+/// Appends copies of a route's new events, up to the first that memory is refused for.
 fn append_all(events: &mut Batch, batch: &Batch) -> Result<(), AllocError>
     ensures appended { OnOk result (events.new ≡ events.old ++ batch.now) }
     ensures accepted { OnOk result (AreIn batch.now events.new) }
@@ -61,14 +61,14 @@ impl MemoryRoute {
         }
     }
 
-    /// The accepted events, in the order in which they came, with their repeats.
+    /// The events that the route accepted, in the order in which they came, with their repeats.
     pub fn accepted(&self) -> &Batch
         ensures { result.now ≡ self.now.events }
     {
         &self.events
     }
 
-    /// How many sends failed, each for want of memory; 2^64-1 stands for that many or more.
+    /// How many of the route's sends failed, each for want of memory; 2^64-1 for that or more.
     pub fn failures(&self) -> u64
         ensures { result ≡ self.now.failures }
     {

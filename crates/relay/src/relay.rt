@@ -53,7 +53,7 @@ pub struct Outcome {
     pub sent: bool,
 }
 
-/// The number of the last event, or the mark where there is none.
+/// The number of the last of a relay's rows, or the mark where there is none.
 fn last_number(mark: u64, rows: &Batch) -> u64
     ensures { IsLast mark rows.now result }
 {
@@ -64,7 +64,7 @@ fn last_number(mark: u64, rows: &Batch) -> u64
     rows.at(count - 1).number().number()
 }
 
-/// Carries a job to a route. Needs no database, so that a worker can do it.
+/// Carries a relay's job to a route. Needs no database, so that a worker can do it.
 pub fn carry<R: Route>(job: Job, route: &mut R) -> Outcome
     ensures job { (result.site ≡ job.site) × (result.first ≡ job.first)
         × (result.last ≡ job.last) }
@@ -94,23 +94,23 @@ impl Relay {
         Relay { site, mark }
     }
 
-    /// The number of its site.
+    /// The number of the relay's site.
     pub fn site(&self) -> u32
         ensures { result ≡ self.now.site }
     {
         self.site
     }
 
-    /// The number of the last row that was accepted.
+    /// The relay's mark: the number of the last row that its route accepted.
     pub fn mark(&self) -> u64
         ensures { result ≡ self.now.mark }
     {
         self.mark
     }
 
-    /// Sends the next rows, at most 100, and raises the mark to the last; answers how many. Without
-    /// rows nothing is sent. The fault is `RouteFailed`, `Store` or want of memory, and the mark is
-    /// then as it was, so that the rows are sent again.
+    /// Sends the route the next rows, at most 100, and raises the relay's mark to the last; answers
+    /// how many. Without rows nothing is sent. The fault is `RouteFailed`, `Store` or want of
+    /// memory, and the mark is then as it was, so that the rows are sent again.
     pub fn step<S: Alter, R: Route>(
         &mut self,
         service: &mut Service<S>,
@@ -135,8 +135,8 @@ impl Relay {
         Ok(rows.len())
     }
 
-    /// The next rows, at most 100, as a job that a worker can carry; none where there are no rows.
-    /// The fault is `Store` or want of memory. The mark rises when the outcome is settled.
+    /// The relay's next rows, at most 100, as a job that a worker can carry; none without rows. The
+    /// fault is `Store` or want of memory. The mark rises when the outcome is settled.
     pub fn job<S: Alter>(&self, service: &mut Service<S>) -> Result<Option<Job>, RelayFault>
         ensures reads { ReadsService (λ conn. state S.Store conn) service.old service.new result }
         ensures job { MakesJob (λ conn. state S.Store conn) service.old service.new self.now
@@ -161,9 +161,9 @@ impl Relay {
         }
     }
 
-    /// Raises the mark to the last row of an outcome of this site, of the next rows, that was sent.
-    /// The fault is `Stranger` where site or rows are others, else `RouteFailed` where it wasn't
-    /// sent.
+    /// Raises the relay's mark to the last row of an outcome of this site, of the next rows, that
+    /// was sent. The fault is `Stranger` where site or rows are others, else `RouteFailed` where it
+    /// wasn't sent.
     pub fn settle(&mut self, outcome: Outcome) -> Result<(), RelayFault>
         requires { outcome.first ≤ outcome.last }
         ensures settled { OnOk result ((outcome.site ≡ self.old.site)

@@ -20,8 +20,8 @@ pub trait Route {
     // What a send of these events that was answered did, told by the route itself.
     ghost takes: { Self → List EventValue → Self → Type 0 };
 
-    /// Takes a batch. After `Ok` each of its events is accepted; after `Err` the failures rose.
-    /// Nothing that was accepted is lost, and what is new is of the batch.
+    /// The route takes a batch. After `Ok` each of its events is accepted; after `Err` the failures
+    /// rose. Nothing that was accepted is lost, and what is new is of the batch.
     fn send(&mut self, batch: &Batch) -> Result<(), RouteFailed>
         ensures accepted { OnOk result (AreIn batch.now (accepted self.new)) }
         ensures took { OnOk result (takes self.old batch.now self.new) }

@@ -16,11 +16,11 @@ use Rattle.sqlite.specs.State.{HasCleanDisk, Opens, State}
 use Rattle.sqlite.specs.declared.error.Error.{Error}
 use Rattle.sqlite.specs.declared.file.Leftover.{Leftover}
 
--- these trees are those of any database that the files hold
+-- these trees are those of any database that the crashed files hold
 abbrev pub AreOfFiles : Image → Trees → Type 0
 AreOfFiles image trees = (db : Trees) → HoldsDatabase image db → trees ≡ db
 
--- a connection's files after a crash
+-- the files of a connection after a crash of the machine
 pub record IsCrashed {D : Type 0} {g : Ghosts D} (c : Held (FileStore D g)) (files : Files D)
     : Type 0 where
   -- they may be opened: no sync of either has failed since

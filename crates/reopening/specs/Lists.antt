@@ -19,7 +19,7 @@ use Rattle.reopening.specs.Crash.{FailsToReopen}
 use Rattle.reopening.specs.declared.tables.NoTable.{NoTable}
 use Rattle.reopening.specs.declared.tables.NoTable.TheVariants as none
 
--- before a call the database had this list
+-- before a call, and a crash, the database had this list
 pub record HadList (old : State) (held : List EventValue) : Type 0 where
   pub is_open : IsTrue old.is_open
   pub sound : IsDatabase old.now
@@ -33,32 +33,32 @@ abbrev pub KeepsUntil : State → List EventValue → State → Type 0
 KeepsUntil old L stopped =
     Survives old stopped (λ trees. IsTrue old.is_open → MayTake L old.now trees)
 
--- before a call the database had no table of events
+-- before a call, and a crash, the database had no table of events
 pub record HadNoList (old : State) : Type 0 where
   pub is_open : IsTrue old.is_open
   pub sound : IsDatabase old.now
   pub list : has_inbox old.now.schema ≡ false
   pub settled : IsSettled old
 
--- and then `Table::create` was to make one
+-- and then, before a crash, `Table::create` was to make one
 abbrev pub MakesUntil : State → State → Type 0
 MakesUntil old stopped = Survives old stopped (MayMake old.now)
 
--- before a call the database was open, whatever it had
+-- before a call, and a crash, the database was open, whatever it had
 pub record HadDatabase (old : State) : Type 0 where
   pub is_open : IsTrue old.is_open
   pub sound : IsDatabase old.now
   pub settled : IsSettled old
 
--- and then `Table::open` was to take a table over, or to make one where none was
+-- and then, before a crash, `Table::open` was to take a table over, or to make one where none was
 abbrev pub OpensUntil : State → State → Type 0
 OpensUntil old stopped = Survives old stopped (MayOpen old.now)
 
--- or `Table::adopt` was to take one over
+-- or, before a crash, `Table::adopt` was to take one over
 abbrev pub AdoptsUntil : State → State → Type 0
 AdoptsUntil old stopped = Survives old stopped (MayUpgrade old.now)
 
--- the database had a table with these events, of either version, or none, and then they are none
+-- before a crash a table had these events, of either version, or there was none, and no event
 pub record WereHeld (db : Database) (events : List EventValue) : Type 0 where
   pub there : has_inbox db.schema ≡ true → IsAnyInbox db events
   pub none : has_inbox db.schema ≡ false → events ≡ []

@@ -17,8 +17,8 @@ use Rattle.reopening.specs.Crash.{FailsToReopen}
 use Rattle.reopening.specs.declared.services.NoService.{NoService}
 use Rattle.reopening.specs.declared.services.NoService.TheVariants as none
 
--- before a call the database had the service with this source and base, which accepted these
--- commands
+-- before a call, and a crash, the database had the service with this source and base, which
+-- accepted these commands
 pub record HadService (old : State) (source : List ℕ) (base : ℕ) (commands : List Accepted)
     : Type 0 where
   pub is_open : IsTrue old.is_open
@@ -33,7 +33,7 @@ abbrev pub CommandsUntil : State → List ℕ → ℕ → Accepted → State →
 CommandsUntil old source base c stopped = HasCleanDisk stopped → IsTrue old.is_open → (db : Trees)
     → stopped.may_leave db → old.may_leave db ⊎ MayAccept source base c old.now db
 
--- before a call a table of a service was missing
+-- before a call, and a crash, a table of a service was missing
 pub record HadNoService (old : State) : Type 0 where
   pub is_open : IsTrue old.is_open
   pub sound : IsDatabase old.now
@@ -46,8 +46,8 @@ abbrev pub FoundsUntil : State → List ℕ → ℕ → State → Type 0
 FoundsUntil old source base stopped = HasCleanDisk stopped → (db : Trees) → stopped.may_leave db
     → old.may_leave db ⊎ MayFound source base old.now db
 
--- these are the source, the base and the commands of the service that the database had; or, where
--- no table of one's names was there, those of a new one with what is given
+-- these are the source, the base and the commands of the service before a crash; or, where no table
+-- of one's names was there, those of a new one with what is given
 pub record WasService (db : Database) (given : List ℕ) (start : ℕ) (source : List ℕ) (base : ℕ)
     (commands : List Accepted) : Type 0 where
   pub there : has_name db.schema ≡ true → IsService db source base commands

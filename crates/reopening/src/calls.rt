@@ -74,8 +74,8 @@ pub fn keep_and_reopen<D: Crash + Drop>(
     }
 }
 
-/// Opens the service of a database, or makes one with this source and base, and places an order. The
-/// connection comes back, whether this was accepted, refused, or stopped at any write.
+/// Before a crash: opens the service of a database, or makes one with this source and base, and
+/// places an order. The connection comes back, if accepted, refused, or stopped at any write.
 fn place_order<S: Alter + Drop>(
     alloc: Global,
     conn: Connection<S>,

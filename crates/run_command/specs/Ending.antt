@@ -11,7 +11,7 @@ use Rattle.inbox_table.specs.Rows.{IsInbox}
 use Rattle.keeper.specs.Keep.{Grows, KeepsUp}
 use Rattle.keeper.specs.declared.fault.KeepFault.{KeepFault}
 
--- what the workers reported, or why nothing was reported
+-- what the workers of a run reported, or why nothing was reported
 abbrev pub workers_of : Result Served ServeFault → Result (List Report) ServeFault
 workers_of (Ok s) = Ok s.reports.items
 workers_of (Err fault) = Err fault

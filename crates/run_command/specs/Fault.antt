@@ -12,19 +12,19 @@ use Rattle.keeper.specs.declared.fault.KeepFault.TheVariants as keep
 use Rattle.run_command.specs.declared.fault.RunFault.{RunFault}
 use Rattle.run_command.specs.declared.fault.RunFault.TheVariants as run
 
--- the fault that one of a keeper is
+-- the fault of a run that one of a keeper is
 abbrev pub of_keep : KeepFault → RunFault
 of_keep keep.OutOfMemory = run.Database command.OutOfMemory
 of_keep keep.Store = run.Database command.Store
 of_keep keep.Foreign = run.Database command.Foreign
 
--- the fault that one of the workers as a whole is
+-- the fault of a run that one of the workers as a whole is
 abbrev pub of_serve : ServeFault → RunFault
 of_serve serve.OutOfMemory = run.Database command.OutOfMemory
 of_serve serve.NoThread = run.NoThread
 
--- the fault of the worker at this place, where it has one; so many of those from it on are feeds.
--- Nothing shuts the gate of a run, and a peer has no input
+-- the fault of a run's worker at this place, where it has one; so many of those from it on are
+-- feeds. Nothing shuts the gate of a run, and a peer has no input
 abbrev pub of_end : ℕ → ℕ → WorkerEnd → Option RunFault
 of_end place feeds Done = None
 of_end place feeds OutOfMemory = Some (run.Database command.OutOfMemory)
@@ -40,13 +40,13 @@ IsDatabaseFaultOfRun command.Store = Unit {0}
 IsDatabaseFaultOfRun command.Foreign = Unit {0}
 IsDatabaseFaultOfRun _ = ⊥
 
--- a fault that is told of the database is such a one
+-- a fault of a run that is told of the database is one of the database's
 abbrev pub IsRunFault : RunFault → Type 0
 IsRunFault (run.Database why) = IsDatabaseFaultOfRun why
 IsRunFault run.NoThread = Unit {0}
 IsRunFault (run.Feed feed fault) = Unit {0}
 
--- a fault that is told of the file of a name is one of it
+-- a fault of a run that is told of the file of a name is one of it
 abbrev pub IsNamedFault : RunFault → Type 0
 IsNamedFault (run.Database why) = IsOfNamed why
 IsNamedFault run.NoThread = Unit {0}

@@ -20,7 +20,7 @@ use Rattle.run_command.specs.Tally.{first_fault, read_in, refused_in}
 use Rattle.run_command.specs.declared.fault.RunFault.{RunFault}
 use Rattle.run_command.specs.declared.fault.RunFault.TheVariants as run
 
--- the reports are those of these feeds and then of these peers, one for each, in their order: all
+-- the reports are those of a run's feeds and then of its peers, one for each, in their order: all
 -- that they handed over is among what the inbox held and what came
 abbrev pub AreReports : List EventValue → List EventValue → List (List ℕ)
     → List (List EventValue) → List Report → Type 0
@@ -44,13 +44,13 @@ abbrev pub fault_of_run : ℕ → Result (List Report) ServeFault → Option Kee
 fault_of_run feeds (Err fault) stopped = Some (of_serve fault)
 fault_of_run feeds (Ok rs) stopped = option_or (first_fault 0 feeds rs) (keeping_fault stopped)
 
--- the reports, none where there are none
+-- the reports of a run's workers, none where there are none
 abbrev pub reports_if_served : Result (List Report) ServeFault → List Report
 reports_if_served (Ok rs) = rs
 reports_if_served (Err fault) = []
 
--- the outcome is the fault, where there is one; else the text that counts what the first so many
--- reports read, over these arrivals, or want of memory for it
+-- a run's outcome is the fault, where there is one; else the text that counts what the first so
+-- many reports read, over these arrivals, or want of memory for it
 abbrev pub TellsRun : ℕ → List Report → List EventValue → Option RunFault
     → Result (List ℕ) RunFault → Type 0
 TellsRun feeds rs arrivals (Some fault) outcome = outcome ≡ Err fault
@@ -58,7 +58,7 @@ TellsRun feeds rs arrivals None (Ok text) =
     IsRunText (read_in (take feeds rs)) (refused_in (take feeds rs)) arrivals text
 TellsRun feeds rs arrivals None (Err why) = why ≡ run.Database OutOfMemory
 
--- the inbox has what was held, and behind it the first so many of these or none
+-- after a run the inbox has what was held, and behind it the first so many of these or none
 abbrev pub HasFrom : Database → List EventValue → List EventValue → Type 0
 HasFrom db held more = (n : ℕ) × IsInbox db (held ++ take n more)
 
@@ -95,7 +95,7 @@ pub record IsRunUnbegun (old new : State) (stopped : Option KeepFault)
   pub foreign : why ≡ Foreign → HasCleanDisk new → database.IsNoInbox old.now
   pub both : has_both old.now.schema ≡ true → why ≡ Foreign
 
--- these are the events that the database held
+-- these are the events that the database held before the run
 abbrev pub WasHeld : Database → List EventValue → Type 0
 WasHeld db held = (events : List EventValue) → database.Holds db events → held ≡ events
 
@@ -125,8 +125,8 @@ abbrev pub IsOutcome : List (List ℕ) → List (List EventValue) → Result (Li
 IsOutcome feeds peers outcome = ((why : CommandFault) × (outcome ≡ Err (run.Database why)))
     ⊎ IsToldBy feeds peers outcome
 
--- these are the trees of a database that holds the events that the old one held, and behind them
--- more or nothing
+-- these are the trees of a database after a run: it holds the events that the old one held, and
+-- behind them more or nothing
 pub record MayRun (old : Database) (trees : Trees) : Type 0 where
   pub db : Database
   pub are : trees ≡ db.trees

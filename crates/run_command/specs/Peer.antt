@@ -14,7 +14,7 @@ use Rattle.feeds.specs.Report.{handled}
 use Rattle.feeds.specs.declared.report.WorkerEnd.TheVariants.{Done}
 use Rattle.feeds.specs.declared.report.Report.{Report}
 
--- a peer that took these events: each once, in the order in which they came
+-- a peer in a run that took these events: each once, in the order in which they came
 abbrev pub peer_of : List EventValue → List EventValue
 peer_of events = append_new key_cmp [] events
 

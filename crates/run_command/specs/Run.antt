@@ -18,28 +18,28 @@ use Rattle.run_command.specs.declared.fault.RunFault.{RunFault}
 use Rattle.run_command.specs.declared.fault.RunFault.TheVariants as run
 use Rattle.databases.specs.Held as database
 
--- the first line: how many events were read, how many of them had no number, how many there are
+-- a run's first line: how many events were read, how many had no number, how many there are
 abbrev pub run_line : ℕ → ℕ → ℕ → List ℕ
 run_line read refused held = codes "read " ++ decimal read ++ codes " refused " ++ decimal refused
     ++ codes " held " ++ decimal held ++ 10 ∷ []
 
--- the first line, and behind it the summary of these arrivals
+-- a run's text: the first line, and behind it the summary of these arrivals
 abbrev pub IsRunText : ℕ → ℕ → List EventValue → List ℕ → Type 0
 IsRunText read refused arrivals text = (cover : List ℕ) × IsAnswer Cover (set_of arrivals) cover
     × (text ≡ run_line read refused (length arrivals) ++ cover)
 
--- each feed's bytes spell its list of events
+-- the bytes of each feed of a run spell its list of events
 abbrev pub EachSpells : List (List ℕ) → List (List EventValue) → Type 0
 EachSpells [] [] = Unit {0}
 EachSpells (b ∷ bs) (events ∷ lists) = Reads b events × EachSpells bs lists
 EachSpells _ _ = ⊥
 
--- the events of all lists
+-- the events of the lists of all feeds of a run
 abbrev pub joined : List (List EventValue) → List EventValue
 joined lists = flat_map (λ events. events) lists
 
--- each feed was read, and the text counts its events: those that have numbers are all among these
--- arrivals, whose number and summary the text tells
+-- each feed of a run was read, and the text counts its events: those that have numbers are all
+-- among these arrivals, whose number and summary the text tells
 pub record SaysRun (feeds : List (List ℕ)) (arrivals : List EventValue) (text : List ℕ)
     : Type 0 where
   pub lists : List (List EventValue)
@@ -49,8 +49,8 @@ pub record SaysRun (feeds : List (List ℕ)) (arrivals : List EventValue) (text 
   pub counted : refused + length (sequenced (joined lists)) ≡ length (joined lists)
   pub prints : IsRunText (length (joined lists)) refused arrivals text
 
--- the database has these arrivals, which are what was held and more behind it or nothing; each peer
--- brought what it was to bring, and the text tells of the arrivals
+-- after a run the database has these arrivals, which are what was held and more behind it or
+-- nothing; each peer brought what it was to bring, and the text tells of the arrivals
 pub record IsRun (feeds : List (List ℕ)) (peers : List (List EventValue))
     (held : List EventValue) (new : Database) (text : List ℕ) : Type 0 where
   pub arrivals : List EventValue
@@ -60,20 +60,20 @@ pub record IsRun (feeds : List (List ℕ)) (peers : List (List EventValue))
   pub pulled : ArePulled held more peers
   pub said : SaysRun feeds arrivals text
 
--- so it is whatever the database held
+-- a run of these feeds and peers is so, whatever the database held
 abbrev pub RunsInto : List (List ℕ) → List (List EventValue) → Database → Database → List ℕ
     → Type 0
 RunsInto feeds peers old new text =
     (held : List EventValue) → database.Holds old held → IsRun feeds peers held new text
 
--- a feed's fault is that of its bytes
+-- the fault of a run's feed is that of its bytes
 abbrev pub IsFeedFault : List (List ℕ) → RunFault → Type 0
 IsFeedFault feeds (run.Database why) = Unit {0}
 IsFeedFault feeds run.NoThread = Unit {0}
 IsFeedFault feeds (run.Feed feed fault) =
     (b : List ℕ) × (slice_get feeds feed ≡ Some b) × Refuses b fault
 
--- the report is that of a feed of these bytes, whose events that it handed over are all among these
--- arrivals
+-- the report is that of a run's feed of these bytes, whose events that it handed over are all among
+-- these arrivals
 abbrev pub IsFed : List EventValue → List ℕ → Report → Type 0
 IsFed arrivals b r = (m : List Call) × Feeds b m r × pull.HoldsEach arrivals (handled m)

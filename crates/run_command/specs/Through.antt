@@ -23,8 +23,8 @@ module _ (lets shuts heard : ℕ → ℕ → Type 0) where
   DoneThrough feeds peers asks = (s : Served) × ServesThrough feeds peers asks s
       × AllByRecursion (λ (r : Report). r.ended ≡ Done) s.reports.items
 
--- a watch was told of the rest of so many arrivals, of which so many were kept before: after each
--- thousand, how many of them the table has
+-- a run's watch was told of the rest of so many arrivals, of which so many were kept before: after
+-- each thousand, how many of them the table has
 abbrev pub IsToldOfRest : (ℕ → ℕ → Type 0) → ℕ → ℕ → Type 0
 IsToldOfRest told before all = IsTold (λ count rest. told (min (before + count) (2 ^ 64 - 1))
     (min (before + rest) (2 ^ 64 - 1))) (all - before)

@@ -95,7 +95,7 @@ pub fn run<R: Threads + Wait + Sync, S: Alter + Drop, G: Gate + Sync, W: Watch>(
     }
 }
 
-/// A run over a table whose events are at hand.
+/// A run of workers over a table whose events are at hand.
 fn run_table<R: Threads + Wait + Sync, S: Alter + Drop, G: Gate + Sync, W: Watch>(
     rt: &R,
     alloc: Global,
@@ -145,7 +145,7 @@ fn run_table<R: Threads + Wait + Sync, S: Alter + Drop, G: Gate + Sync, W: Watch
     }
 }
 
-/// A run that wasn't begun.
+/// A run of files side by side that wasn't begun.
 fn unbegun<S: Alter + Drop>(conn: Connection<S>, why: CommandFault) -> RunEnd<S>
     ensures { result ≡ record { conn = conn; outcome = Err (Database why); stopped = None } }
 {
@@ -156,7 +156,7 @@ fn unbegun<S: Alter + Drop>(conn: Connection<S>, why: CommandFault) -> RunEnd<S>
     }
 }
 
-/// The end of a run whose workers have ended, so many of which were feeds.
+/// The end of a run of files side by side whose workers have ended, so many of which were feeds.
 fn ended<S: Alter + Drop, W: Watch>(
     alloc: Global,
     closed: Closed<S>,
@@ -187,8 +187,8 @@ fn ended<S: Alter + Drop, W: Watch>(
     }
 }
 
-/// Keeps what is left, where workers reported and keeping beside them didn't stop. The answer is
-/// why keeping stopped, if it did.
+/// Keeps what a run has left, where workers reported and keeping beside them didn't stop. The
+/// answer is why keeping stopped, if it did.
 fn keep_rest<S: Alter + Drop, W: Watch>(
     keeper: &mut Keeper<S>,
     site: &Site,
@@ -214,7 +214,7 @@ fn keep_rest<S: Alter + Drop, W: Watch>(
     }
 }
 
-/// The first fault, or else the text.
+/// The outcome of a run: the first fault, or else the text.
 fn outcome_of(
     alloc: Global,
     site: &Site,
@@ -238,7 +238,7 @@ fn outcome_of(
     said(alloc, reports, feeds, site)
 }
 
-/// The first so many reports.
+/// The first so many reports of a run's workers.
 fn front(reports: &[Report], feeds: u64) -> &[Report]
     ensures { result.now ≡ take feeds reports.now }
 {

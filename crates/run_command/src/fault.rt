@@ -18,7 +18,7 @@ pub enum RunFault {
     Feed { feed: u64, fault: ReadFault },
 }
 
-/// The fault that a keeper's refusal is.
+/// The fault of a run that a keeper's refusal is.
 pub fn of_keep(stop: Stop) -> RunFault
     ensures { result ≡ of_keep stop }
 {
@@ -29,7 +29,7 @@ pub fn of_keep(stop: Stop) -> RunFault
     }
 }
 
-/// The fault that one of the workers as a whole is.
+/// The fault of a run that one of the workers as a whole is.
 pub fn of_serve(fault: ServeFault) -> RunFault
     ensures { result ≡ of_serve fault }
 {

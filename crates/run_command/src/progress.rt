@@ -32,8 +32,8 @@ impl<'a, G: Gate> Gate for Counting<'a, G> {
     }
 }
 
-/// About how many events were handed over: a worker's last call may have fewer than it counts, and
-/// some calls have none.
+/// About how many events a run's workers handed over: a worker's last call may have fewer than it
+/// counts, and some calls have none.
 fn handed_over(calls: &AtomicU64) -> u64 {
     calls.load(Ordering::SeqCst).saturating_mul(MAX_PAGE)
 }
@@ -60,7 +60,7 @@ impl<'a, 'b, R: Wait, S: Alter + Drop, W: Watch> Aside for WatchedFlusher<'a, 'b
 
     ghost goes_on = { λ a b c. flushes_on _ a.flusher b.flusher c.flusher };
 
-    /// A turn of the flusher; then the watch is told.
+    /// A turn of a run's flusher; then the watch is told.
     fn turn(&mut self) -> bool
         ensures turned { Turns (λ conn. state S.Store conn)
             self.old.flusher self.new.flusher result }

@@ -17,8 +17,8 @@ use std::thread::Threads;
 /// Runs over databases, by the names of their files. The file is made where there is none, and
 /// closed in the end. What it holds no clause can say: that of [`crate::run`] does.
 pub trait Runs {
-    /// Runs workers over the file, as [`crate::run`]. `growth` is about how many bytes will be added,
-    /// for the size of the cache alone.
+    /// Runs workers over the database's file, as [`crate::run`]. `growth` is about how many bytes
+    /// will be added, for the size of the cache alone.
     fn run<R: Threads + Wait + Sync, W: Watch>(
         &self,
         rt: &R,

@@ -29,9 +29,9 @@ pub struct Closed<S: Alter + Drop> {
     pub stopped: Option<Stop>,
 }
 
-/// Shares a site for as long as jobs are done for it, each in a thread of its own, and keeps what
-/// came meanwhile. For want of memory the keeper comes back as it was. The gate is asked before
-/// each call of a worker and told after it, and the watch is told how far it came.
+/// Shares a site for as long as jobs of a run are done for it, each in a thread of its own, and
+/// keeps what came meanwhile. For want of memory the keeper comes back as it was. The gate is asked
+/// before each call of a worker and told after it, and the watch is told how far it came.
 pub fn share<R: Threads + Wait + Sync, S: Alter + Drop, G: Gate + Sync, W: Watch>(
     rt: &R,
     alloc: Global,

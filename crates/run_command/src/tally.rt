@@ -7,8 +7,8 @@ use crate::fault::RunFault;
 use databases::CommandFault;
 use feeds::{Report, WorkerEnd};
 
-/// The fault of a worker, by its place and why it ended; so many of those from its place on are
-/// feeds. Nothing shuts the gate of a run, and a peer has no input.
+/// The fault of a run's worker, by its place and why it ended; so many of those from its place on
+/// are feeds. Nothing shuts the gate of a run, and a peer has no input.
 fn of_end(place: u64, feeds: u64, ended: WorkerEnd) -> Option<RunFault>
     ensures { result ≡ of_end place feeds ended }
 {
@@ -25,7 +25,7 @@ fn of_end(place: u64, feeds: u64, ended: WorkerEnd) -> Option<RunFault>
     }
 }
 
-/// The fault of the first worker that has one; so many of them are feeds, which come first.
+/// The fault of a run's first worker that has one; so many are feeds, which come first.
 pub fn first_fault(reports: &[Report], feeds: u64) -> Option<RunFault>
     ensures { result ≡ first_fault 0 feeds reports.now }
 {
@@ -38,7 +38,7 @@ pub fn first_fault(reports: &[Report], feeds: u64) -> Option<RunFault>
     None
 }
 
-/// How many events were read, and how many of them had no number.
+/// How many events a run's workers read, and how many of them had no number.
 pub fn counts(reports: &[Report]) -> (u128, u128)
     ensures read { result.0 ≡ read_in reports.now }
     ensures refused { result.1 ≡ refused_in reports.now }

@@ -7,8 +7,8 @@ use site::Site;
 use std::alloc::{AllocError, Global};
 use views::Query;
 
-/// How many events were read, how many of them had no number, how many the site has now, and its
-/// summary.
+/// A run's text: how many events were read, how many of them had no number, how many the site has
+/// now, and its summary.
 pub fn run_text(alloc: Global, read: u128, refused: u128, site: &Site) -> Result<Text, AllocError>
     ensures { IfOk result (IsRunText read refused site.now) }
 {
@@ -17,7 +17,7 @@ pub fn run_text(alloc: Global, read: u128, refused: u128, site: &Site) -> Result
     Ok(Text::from_string(text))
 }
 
-/// The line of the counts.
+/// The line of the counts of a run.
 fn first_line(alloc: Global, read: u128, refused: u128, held: u64) -> Result<String, AllocError>
     ensures { IfOk result (λ line. string_bytes line ≡ run_line read refused held) }
 {

@@ -8,11 +8,11 @@ use Rattle.inbox.specs.Sets.{set_of, union}
 use Rattle.inbox.specs.declared.inbox.Counts.{Counts}
 use Rattle.inbox.specs.declared.inbox.Short.{Short}
 
--- the event at a place of the list L, where there is one, is not among the arrivals A
+-- the event at a place of the list L, if there is one, is not among a site's arrivals A
 abbrev pub LacksArrivalAt : List EventValue → List EventValue → ℕ → Type 0
 LacksArrivalAt A L i = (e : EventValue) → slice_get L i ≡ Some e → has key_cmp A e ≡ false
 
--- each of the events is there once: whoever adds them to nothing, one by one, passes none over
+-- each of the events is there once: a site that takes them, from nothing, passes none over
 abbrev pub AreDistinct : List EventValue → Type 0
 AreDistinct A = append_new key_cmp [] A ≡ A
 

@@ -12,21 +12,21 @@ use Rattle.coverage.specs.Digests.{is_wanted}
 use Rattle.coverage.specs.Summary.{Sources}
 use Rattle.site.specs.declared.site.delta.DeltaPart.{DeltaPart}
 
--- whether the event has a number for which the first summary wants what the second tells of
+-- whether the event has a number for which a peer's summary wants what the site's own tells of
 abbrev pub is_wanting : Sources → Sources → EventValue → Bool
 is_wanting peer own e = option_map_or (is_wanted peer own (source_of e)) (number_of e) false
 
--- the second summary tells of each event whether the peer lacks it, going by the digests of E
+-- the site's own summary tells of each event whether the peer lacks it, by the digests of E
 abbrev pub Tells : List EventValue → Sources → Sources → Type 0
 Tells E peer own = (e : EventValue) → is_lacking E peer e ≡ is_wanting peer own e
 
--- every place of E at which an event stands that the peer lacks is one of the places
+-- every place of a site's set E at which an event stands that the peer lacks is one of the places
 abbrev pub AreAll : List EventValue → Sources → BTreeSet ℕ → Type 0
 AreAll E peer places = (i : ℕ) (e : EventValue) → slice_get E i ≡ Some e
     → is_lacking E peer e ≡ true → contains nat_cmp places i ≡ true
 
--- of the events of E from a place on, those that the peer lacks, `limit` of them at most, and the
--- place to go on from
+-- a part of a delta: of the site's events E from a place on, those that the peer lacks, `limit` of
+-- them at most, and the place to go on from
 pub record IsDeltaPart (E : List EventValue) (peer : Sources) (place limit : ℕ) (part : DeltaPart)
     : Type 0 where
   pub events : part.events ≡ take limit (lacking_of E peer (drop place E))
@@ -35,6 +35,6 @@ pub record IsDeltaPart (E : List EventValue) (peer : Sources) (place limit : ℕ
   pub within : part.next ≤ length E
   pub behind : place + length part.events ≤ part.next
 
--- of the events of E from a place on, the peer lacks some of the next `limit`
+-- of the site's events E from a place on, the peer lacks some of the next `limit`
 abbrev pub LacksSomeFrom : List EventValue → Sources → ℕ → ℕ → Type 0
 LacksSomeFrom E peer place limit = take limit (lacking_of E peer (drop place E)) ≢ []

@@ -9,19 +9,19 @@ use Rattle.site.specs.declared.call.Reply.TheVariants.{Answered, Paged, Refused,
 use Rattle.site.specs.declared.desk.DeskFault.{DeskFault}
 use Rattle.site.specs.declared.desk.DeskFault.TheVariants.{OutOfMemory}
 
--- the number of the kind of a fault
+-- the number of the kind of a desk's fault
 abbrev pub fault_number : DeskFault → ℕ
 fault_number (OutOfMemory taken fresh) = 1
 
--- how many events of a batch were handled before the fault
+-- how many events of a batch a desk handled before the fault
 abbrev pub taken_of : DeskFault → ℕ
 taken_of (OutOfMemory taken fresh) = taken
 
--- the reply that a fault tells
+-- the reply of a desk that its fault tells
 abbrev pub refused : DeskFault → Reply
 refused (OutOfMemory taken fresh) = Refused taken fresh
 
--- the reply that a call tells by its result
+-- the reply that a call of a desk tells by its result
 abbrev pub took : Result Counts DeskFault → Reply
 took (Ok counts) = Took counts.fresh counts.repeated
 took (Err fault) = refused fault

@@ -12,8 +12,8 @@ use Rattle.views.specs.declared.query.Query.{Query}
 use Rattle.site.specs.Delta.{delta}
 use Rattle.site.specs.Page.{page}
 
--- two sets are answered about alike: a question has the same text over both, both have one summary
--- that digests them and one text of it, and any delta, page of a delta and page is the same of both
+-- the sets of two sites are alike: a question has one text over both, both have one summary that
+-- digests them and one text of it, and any delta, page of a delta and page is the same of both
 pub record AreAlike (E F : List EventValue) : Type 0 where
   pub questions : (query : Query) (text other : List ℕ) → IsAnswer query E text
       → IsAnswer query F other → text ≡ other
@@ -40,14 +40,14 @@ pub record IsUnited (A L : List EventValue) : Type 0 where
 abbrev pub TakingUnites : Type 0
 TakingUnites = (A L : List EventValue) → AreEvents A → AreEvents L → IsUnited A L
 
--- an event of a set that isn't among its first n isn't among the first n after more was taken
+-- an event of a site's set that isn't among the first n isn't among them after more was taken
 abbrev pub PagesSkipNone : Type 0
 PagesSkipNone =
     (A L : List EventValue) (n : ℕ) (e : EventValue) → AreEvents A → AreEvents L
     → Contains (set_of A) e → ¬ Contains (take n (set_of A)) e
     → ¬ Contains (take n (set_of (append_new key_cmp A L))) e
 
--- the event that came as the n-th is the n-th for ever, whatever is taken
+-- the event that came to a site as the n-th is the n-th for ever, whatever is taken
 abbrev pub ArrivalsStay : Type 0
 ArrivalsStay = (A L : List EventValue) (n : ℕ) (e : EventValue) → slice_get A n ≡ Some e
     → slice_get (append_new key_cmp A L) n ≡ Some e

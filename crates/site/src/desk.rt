@@ -22,7 +22,7 @@ pub enum DeskFault {
 }
 
 impl DeskFault {
-    /// The number that the fault is known by, which is 1.
+    /// The number that a desk's fault is known by, which is 1.
     pub fn number(self) -> u8
         ensures { result ≡ fault_number self }
     {
@@ -37,7 +37,7 @@ impl From<AllocError> for DeskFault {
 
     ghost from_gives = { λ _ fault. fault ≡ OutOfMemory 0 0 };
 
-    /// Want of memory where no batch was taken.
+    /// A desk's want of memory where no batch was taken.
     fn from(_error: AllocError) -> DeskFault {
         DeskFault::OutOfMemory { taken: 0, fresh: 0 }
     }
@@ -58,8 +58,8 @@ pub trait Desk {
     // From the one state to the other it made these calls of its own.
     ghost went: { Self → Self → List Call → Type 0 };
 
-    /// Takes the events of a batch, from its front on. After want of memory the batch holds what
-    /// was not taken; what was taken stays.
+    /// A desk takes the events of a batch, from its front on. After want of memory the batch holds
+    /// what was not taken; what was taken stays.
     fn take(&mut self, batch: &mut Batch) -> Result<Counts, DeskFault>
         ensures went { went self.old self.new
             (call (command.Take batch.old) (took result) ∷ []) }
@@ -68,15 +68,15 @@ pub trait Desk {
         ensures emptied { OnOk result (batch.new ≡ []) }
         ensures rest { IfErr result (λ fault. batch.new ≡ drop (taken_of fault) batch.old) };
 
-    /// The summary that digests what came, version 2: which numbers the events of each source
+    /// A desk's summary that digests what came, version 2: which numbers the events of each source
     /// have, and the digests of their blocks.
     fn summary(&mut self) -> Result<Summary, DeskFault>
         ensures went { went self.old self.new (call command.Summary (summed result) ∷ []) }
         ensures step { Follows (arrivals self.old)
             (call command.Summary (summed result)) (arrivals self.new) };
 
-    /// The events at the places from `from` on of what the peer lacks, in key order, `limit` of
-    /// them at most: 1 to 100.
+    /// A desk's page of a delta: the events at the places from `from` on of what the peer lacks, in
+    /// key order, `limit` of them at most: 1 to 100.
     fn delta_page(&mut self, peer: &Summary, from: u64, limit: u64) -> Result<Batch, DeskFault>
         requires low { 1 ≤ limit }
         requires high { limit ≤ max_page }
@@ -85,7 +85,7 @@ pub trait Desk {
         ensures step { Follows (arrivals self.old)
             (call (command.DeltaPage peer.now from limit) (paged result)) (arrivals self.new) };
 
-    /// The events at the places from `from` on in key order, `limit` of them at most: 1 to 100.
+    /// A desk's page: the events from place `from` on in key order, at most `limit`: 1 to 100.
     fn page(&mut self, from: u64, limit: u64) -> Result<Batch, DeskFault>
         requires low { 1 ≤ limit }
         requires high { limit ≤ max_page }
@@ -94,7 +94,7 @@ pub trait Desk {
         ensures step { Follows (arrivals self.old)
             (call (command.Page from limit) (paged result)) (arrivals self.new) };
 
-    /// The answer to a question.
+    /// A desk's answer to a question about what the site holds.
     fn query(&mut self, query: Query) -> Result<Answer, DeskFault>
         ensures went { went self.old self.new
             (call (command.Query query) (answered result) ∷ []) }

@@ -21,12 +21,12 @@ pub trait Gate {
     /// It was told that a worker made a call. Only `after` makes it so.
     ghost heard: { Self → ℕ → ℕ → Type 0 };
 
-    /// Whether the worker may make its call.
+    /// Whether the gate lets the worker make its call of a desk or site.
     fn before(&self, worker: u64, call: u64) -> Result<(), GateShut>
         ensures { MatchResult result (λ _. lets self.now worker call)
             (λ _. shuts self.now worker call) };
 
-    /// The worker has made its call.
+    /// Tells the gate that the worker has made its call of a desk or site.
     fn after(&self, worker: u64, call: u64)
         ensures { heard self.now worker call };
 }

@@ -27,8 +27,8 @@ pub fn taking_unites()
     arrivals_unite();
 }
 
-/// Whoever goes on with pages from a place of key order that was reached skips no event that was
-/// there before, whatever was taken meanwhile.
+/// Whoever goes on with a site's pages from a place of key order that was reached skips no event
+/// that was there before, whatever was taken meanwhile.
 pub fn pages_skip_none()
     ensures { PagesSkipNone }
 {
@@ -36,13 +36,13 @@ pub fn pages_skip_none()
     arrivals_unite();
 }
 
-/// The event that came as the n-th is the n-th for ever, whatever is taken: who read the first n goes
-/// on behind them.
+/// The event that came to a site as the n-th is the n-th for ever, whatever is taken: who read the
+/// first n goes on behind them.
 pub fn arrivals_stay()
     ensures { ArrivalsStay }
 {}
 
-/// Whoever asks for the source and the id of a conflict gets the conflict's events, in its order.
+/// Whoever asks a site for source and id of a conflict gets the conflict's events, in its order.
 pub fn conflicts_are_found()
     ensures { ConflictsAreFound }
 {}

@@ -84,7 +84,7 @@ impl Site {
         }
     }
 
-    /// How many events came, each counted once.
+    /// How many events came to the site, each counted once.
     pub fn arrived(&self) -> u64
         ensures count { result ≡ length self.now }
         ensures events { AreEvents self.now }
@@ -94,7 +94,7 @@ impl Site {
         self.inbox.arrived()
     }
 
-    /// The event that came as the i-th, from 0.
+    /// The event that came to the site as the i-th, from 0.
     pub fn arrived_at(&self, i: u64) -> &Sequenced
         requires { i < length self.now }
         ensures { slice_get self.now i ≡ Some result.now }
@@ -102,14 +102,14 @@ impl Site {
         self.inbox.arrived_at(i)
     }
 
-    /// How many events the set has.
+    /// How many events the site's set has.
     pub fn len(&self) -> u64
         ensures { result ≡ length (set_of self.now) }
     {
         self.inbox.len()
     }
 
-    /// The event at place i of key order. The time grows with the logarithm of the number of
+    /// The site's event at place i of key order. The time grows with the logarithm of the number of
     /// events.
     fn at(&self, i: u64) -> &Sequenced
         requires { i < length (set_of self.now) }

@@ -29,7 +29,7 @@ use library_calls::{
 };
 use std::alloc::Global;
 
-/// How many bytes of room a site needs.
+/// Tells C how many bytes of room a site needs.
 #[unsafe(no_mangle)]
 pub extern "C" fn jumbetai_site_size() -> usize
     ensures { result ≡ type_size the_row }
@@ -37,7 +37,7 @@ pub extern "C" fn jumbetai_site_size() -> usize
     size_of::<Held>()
 }
 
-/// Makes a site without events in the room.
+/// Makes a site without events in the room that C gives.
 #[unsafe(no_mangle)]
 pub unsafe extern "C" fn jumbetai_site_open(alloc: Global, at: *mut u8)
     requires* { sem 𝓛 (room_at the_row at) }
@@ -46,7 +46,7 @@ pub unsafe extern "C" fn jumbetai_site_open(alloc: Global, at: *mut u8)
     std::ptr::write(at as *mut Held, calls::site_open(alloc));
 }
 
-/// Takes the events that the bytes spell, one event or a batch.
+/// Takes the events that the bytes of the C caller spell, one event or a batch.
 #[unsafe(no_mangle)]
 pub unsafe extern "C" fn jumbetai_site_take(at: *mut u8, bytes: &[u8], reply: &mut Reply)
     ghost held: { Held }
@@ -136,7 +136,7 @@ pub unsafe extern "C" fn jumbetai_site_keep_views(at: *mut u8, seed: &[u8], repl
     std::ptr::write(to, calls::site_keep_views(std::ptr::read(to), seed, reply));
 }
 
-/// Tells what is asked of the site by a number, as `jumbetai_file_tell` does.
+/// Tells C what is asked of the site by a number, as `jumbetai_file_tell` does.
 #[unsafe(no_mangle)]
 pub unsafe extern "C" fn jumbetai_site_tell(
     at: *mut u8,
@@ -195,7 +195,7 @@ pub unsafe extern "C" fn jumbetai_site_get(at: *mut u8, source: &[u8], id: &[u8]
     std::ptr::write(to, calls::site_get(std::ptr::read(to), source, id, reply));
 }
 
-/// Tells the name of the site's set, by which two sites are the same.
+/// Tells C the name of the site's set, by which two sites are the same.
 #[unsafe(no_mangle)]
 pub unsafe extern "C" fn jumbetai_site_name(at: *mut u8, name: &mut Name)
     ghost held: { Held }
@@ -207,7 +207,7 @@ pub unsafe extern "C" fn jumbetai_site_name(at: *mut u8, name: &mut Name)
     std::ptr::write(to, calls::site_name(std::ptr::read(to), name));
 }
 
-/// Tells how far the site and a peer are apart, by its summary.
+/// Tells C how far the site and a peer are apart, by its summary.
 #[unsafe(no_mangle)]
 pub unsafe extern "C" fn jumbetai_site_compare(at: *mut u8, peer: &[u8], lag: &mut Lag)
     ghost held: { Held }
@@ -219,7 +219,7 @@ pub unsafe extern "C" fn jumbetai_site_compare(at: *mut u8, peer: &[u8], lag: &m
     std::ptr::write(to, calls::site_compare(std::ptr::read(to), peer, lag));
 }
 
-/// Makes a copy of the site in another room; one without events where memory runs out.
+/// Makes a copy of the site in another room of C's; one without events where memory runs out.
 #[unsafe(no_mangle)]
 pub unsafe extern "C" fn jumbetai_site_copy(at: *mut u8, to: *mut u8)
     ghost held: { Held }
@@ -231,7 +231,7 @@ pub unsafe extern "C" fn jumbetai_site_copy(at: *mut u8, to: *mut u8)
     std::ptr::write(to as *mut Held, copy);
 }
 
-/// Tells what taking bytes would come to, and how many events they spell.
+/// Tells C what taking bytes would come to, and how many events they spell.
 #[unsafe(no_mangle)]
 pub extern "C" fn jumbetai_bytes_test(alloc: Global, bytes: &[u8], reply: &mut Reply)
     ensures { Tested bytes.now reply.new }
@@ -286,7 +286,7 @@ pub unsafe extern "C" fn jumbetai_site_combine(
     );
 }
 
-/// Tells the part that a source falls to, of so many.
+/// Tells C the part that a source falls to, of so many.
 #[unsafe(no_mangle)]
 pub extern "C" fn jumbetai_source_part(source: &[u8], parts: u64, part: &mut u64) -> u32
     ensures { TellsSourcePart source.now parts result part.new }
@@ -294,7 +294,7 @@ pub extern "C" fn jumbetai_source_part(source: &[u8], parts: u64, part: &mut u64
     source_part(source, parts, part)
 }
 
-/// Copies a piece of the answer's text, counted from 0.
+/// Copies a piece of the answer's text to C, counted from 0.
 #[unsafe(no_mangle)]
 pub unsafe extern "C" fn jumbetai_site_read(at: *mut u8, piece: u32, out: &mut Piece)
     ghost held: { Held }
@@ -306,7 +306,7 @@ pub unsafe extern "C" fn jumbetai_site_read(at: *mut u8, piece: u32, out: &mut P
     std::ptr::write(to, calls::site_read(std::ptr::read(to), piece, out));
 }
 
-/// Gives the site's memory back; its room is room again.
+/// Gives the site's memory back; its room is room of C's again.
 #[unsafe(no_mangle)]
 pub unsafe extern "C" fn jumbetai_site_close(at: *mut u8)
     ghost held: { Held }
@@ -316,7 +316,7 @@ pub unsafe extern "C" fn jumbetai_site_close(at: *mut u8)
     calls::site_close(std::ptr::read(at as *mut Held));
 }
 
-/// How many bytes of room a site over a file needs.
+/// Tells C how many bytes of room a site over a file needs.
 #[unsafe(no_mangle)]
 pub extern "C" fn jumbetai_file_size() -> usize
     ensures { result ≡ type_size file_row }
@@ -413,7 +413,7 @@ pub unsafe extern "C" fn jumbetai_file_get(at: *mut u8, source: &[u8], id: &[u8]
     std::ptr::write(to, calls::file_get(std::ptr::read(to), source, id, reply));
 }
 
-/// Tells the name of the site's set, as `jumbetai_site_name` does.
+/// Tells C the name of the site's set, as `jumbetai_site_name` does.
 #[unsafe(no_mangle)]
 pub unsafe extern "C" fn jumbetai_file_name(at: *mut u8, name: &mut Name)
     ghost held: { FileHeld }
@@ -425,7 +425,7 @@ pub unsafe extern "C" fn jumbetai_file_name(at: *mut u8, name: &mut Name)
     std::ptr::write(to, calls::file_name(std::ptr::read(to), name));
 }
 
-/// Tells how far the site and a peer are apart, as `jumbetai_site_compare` does.
+/// Tells C how far the site and a peer are apart, as `jumbetai_site_compare` does.
 #[unsafe(no_mangle)]
 pub unsafe extern "C" fn jumbetai_file_compare(at: *mut u8, peer: &[u8], lag: &mut Lag)
     ghost held: { FileHeld }
@@ -474,7 +474,7 @@ pub unsafe extern "C" fn jumbetai_file_keep(at: *mut u8, reply: &mut Reply)
     std::ptr::write(to, calls::file_keep(std::ptr::read(to), reply));
 }
 
-/// Tells what became of the body at a place of those that were kept.
+/// Tells C what became of the body at a place of those that were kept.
 #[unsafe(no_mangle)]
 pub unsafe extern "C" fn jumbetai_file_answer(at: *mut u8, place: u64, reply: &mut Reply)
     ghost held: { FileHeld }
@@ -486,7 +486,7 @@ pub unsafe extern "C" fn jumbetai_file_answer(at: *mut u8, place: u64, reply: &m
     std::ptr::write(to, calls::file_answer(std::ptr::read(to), place, reply));
 }
 
-/// Copies a piece of the text, counted from 0.
+/// Copies a piece of the text of a site over a file to C, counted from 0.
 #[unsafe(no_mangle)]
 pub unsafe extern "C" fn jumbetai_file_read(at: *mut u8, piece: u32, out: &mut Piece)
     ghost held: { FileHeld }
@@ -509,7 +509,7 @@ pub unsafe extern "C" fn jumbetai_file_close(at: *mut u8)
     calls::file_close(std::ptr::read(at as *mut FileHeld));
 }
 
-/// How many bytes of room an outbox over a file needs.
+/// Tells C how many bytes of room an outbox over a file needs.
 #[unsafe(no_mangle)]
 pub extern "C" fn jumbetai_outbox_size() -> usize
     ensures { result ≡ type_size outbox_row }
@@ -580,7 +580,7 @@ pub unsafe extern "C" fn jumbetai_outbox_rows(at: *mut u8, after: u64, reply: &m
     std::ptr::write(to, calls::outbox_rows(std::ptr::read(to), after, reply));
 }
 
-/// Copies a piece of the text, counted from 0.
+/// Copies a piece of the outbox's text to C, counted from 0.
 #[unsafe(no_mangle)]
 pub unsafe extern "C" fn jumbetai_outbox_read(at: *mut u8, piece: u32, out: &mut Piece)
     ghost held: { OutboxHeld }
@@ -603,7 +603,7 @@ pub unsafe extern "C" fn jumbetai_outbox_close(at: *mut u8)
     calls::outbox_close(std::ptr::read(at as *mut OutboxHeld));
 }
 
-/// How many bytes of room a numberer over a file needs.
+/// Tells C how many bytes of room a numberer over a file needs.
 #[unsafe(no_mangle)]
 pub extern "C" fn jumbetai_numbers_size() -> usize
     ensures { result ≡ type_size numbers_row }
@@ -648,7 +648,7 @@ pub unsafe extern "C" fn jumbetai_numbers_number(at: *mut u8, bytes: &[u8], repl
     std::ptr::write(to, calls::numbers_number(std::ptr::read(to), bytes, reply));
 }
 
-/// Copies a piece of the text, counted from 0.
+/// Copies a piece of the numberer's text to C, counted from 0.
 #[unsafe(no_mangle)]
 pub unsafe extern "C" fn jumbetai_numbers_read(at: *mut u8, piece: u32, out: &mut Piece)
     ghost held: { NumbersHeld }

@@ -28,7 +28,7 @@ pub struct Causes {
 }
 
 impl Causes {
-    /// None yet. It takes no memory.
+    /// No causes yet on the status line. It takes no memory.
     pub fn none(alloc: Global) -> Causes {
         Causes {
             alloc,
@@ -37,8 +37,8 @@ impl Causes {
         }
     }
 
-    /// The causes, each with its count of lines, in the order in which they came; empty, where no
-    /// line is at fault.
+    /// The causes on the status line, each with its count of lines, in the order in which they
+    /// came; empty, where no line is at fault.
     pub fn words(&self) -> Result<String, AllocError> {
         let mut words = String::new(self.alloc);
         for cause in self.list.as_slice() {
@@ -51,7 +51,7 @@ impl Causes {
         Ok(words)
     }
 
-    /// Looks at bytes that were written.
+    /// Looks at bytes that were written of answers, for the causes of a status line.
     pub fn note(&mut self, bytes: &[u8]) {
         for byte in bytes {
             if *byte == b'\n' {
@@ -63,7 +63,7 @@ impl Causes {
         }
     }
 
-    /// Counts the cause that the line tells, if it does.
+    /// Counts the cause that the acknowledgement tells, if it does, for the status line.
     fn count(&mut self) {
         let Some(name) = cause_of(self.line.as_slice()) else {
             return;

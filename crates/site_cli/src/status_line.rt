@@ -25,8 +25,8 @@ pub struct StatusLine<E> {
 }
 
 impl<E: Print + IsTerminal> StatusLine<E> {
-    /// An empty line on the stream. Where answers go to a terminal too, nothing is shown of a
-    /// stream of lines, each of which has its answer there.
+    /// An empty status line on the terminal's stream. Where answers go to a terminal too, nothing
+    /// is shown of a stream of lines, each of which has its answer there.
     pub fn on(to: E, is_out_terminal: bool, alloc: Global) -> StatusLine<E> {
         let is_terminal = to.is_terminal();
         StatusLine {
@@ -42,13 +42,13 @@ impl<E: Print + IsTerminal> StatusLine<E> {
 }
 
 impl<E: Print> StatusLine<E> {
-    /// Writes the text in place of the line.
+    /// Writes the text in place of the status line of the terminal.
     fn show(&self, text: &str) {
         self.is_shown.set(true);
         let _written = self.to.write_all(text.as_bytes());
     }
 
-    /// Looks at what was written of an answer, for the faults that it tells.
+    /// Looks at what was written of an answer, for the faults that the status line tells.
     fn note(&self, bytes: &[u8]) {
         if !self.is_terminal {
             return;
@@ -61,7 +61,7 @@ impl<E: Print> StatusLine<E> {
         self.causes.set(Some(causes));
     }
 
-    /// The causes of the faults that were told, with a colon behind them; empty, where none was.
+    /// The causes of faults told, for the status line, with a colon behind; empty, where none was.
     fn causes_told(&self) -> String {
         let told = match self.causes.replace(None) {
             Some(causes) => causes.words().ok(),
@@ -78,7 +78,7 @@ impl<E: Print> StatusLine<E> {
         }
     }
 
-    /// Standard output, whose answers are looked at too.
+    /// Standard output, whose answers the terminal's status line looks at too.
     pub fn counting<W: Write>(&self, to: W) -> CountedOutput<'_, W, E> {
         CountedOutput { to, line: self }
     }

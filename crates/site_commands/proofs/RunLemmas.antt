@@ -12,7 +12,7 @@ use Rattle.site_commands.specs.Lines.{line_of, made_lines, memory_line}
 use Rattle.site_commands.specs.Names.{Names, names_of_follow, of_number, of_plan}
 use Rattle.site_commands.specs.Checks.{IsCheckEnding}
 use Rattle.site_commands.specs.Parts.{IsCombineEnding}
-use Rattle.site_commands.specs.Runs.{ComesTo, IsEnding, IsLine, IsSplitEnding, IsToldBeside, PrintsAnswer, RunsAlone, RunsBeside, RunsPlan, RunsWords, said}
+use Rattle.site_commands.specs.Runs.{ComesTo, IsEnding, IsLine, IsSplitEnding, IsToldBeside, PrintsAnswer, RunsAlone, RunsBeside, RunsWords, said}
 use Rattle.site_commands.specs.Answers.{AnswersPlan, IsAllowedOnce, IsAllowedAlone, IsAllowedPlan, RefusesPlan}
 use Rattle.site_commands.specs.declared.ending.Ending.{Ending}
 use Rattle.site_commands.specs.declared.ending.Ending.TheVariants.{Answer, Told, Pages, Findings, Help, Faulty, Refused, Uncombined, Unsaved, NoMemory}
@@ -267,11 +267,6 @@ planned_alone C U words (alone.Split asked) r out out' err err' planned w = inl 
 -- and so is a run
 pub planned_run : (C : List ℕ → List ℕ → Type 0) (U : List ℕ → Unread → Type 0) (words : List (List ℕ)) (p : Run) (r : ℕ) (out out' err err' : Option (List ℕ)) → IsPlan words (plan.Run p) → RunsBeside C U p r out out' err err' → RunsWords C U words r out out' err err'
 planned_run C U words p r out out' err err' planned w = inl (record { ending = w.0; is_ending = planned_ending C U words (plan.Run p) w.0 planned w.1; ends = w.2 })
-
--- and so any plan
-pub planned_plan : (C : List ℕ → List ℕ → Type 0) (U : List ℕ → Unread → Type 0) (words : List (List ℕ)) (p : Plan) (r : ℕ) (out out' err err' : Option (List ℕ)) → IsPlan words p → RunsPlan C U p r out out' err err' → RunsWords C U words r out out' err err'
-planned_plan C U words (plan.Alone asked) r out out' err err' planned w = planned_alone C U words asked r out out' err err' planned w
-planned_plan C U words (plan.Run run) r out out' err err' planned w = planned_run C U words run r out out' err err' planned w
 
 faulty_ending : (C : List ℕ → List ℕ → Type 0) (U : List ℕ → Unread → Type 0) (words : List (List ℕ)) (f : FaultyWords) → Blames (AreFaulty words) f → IsEnding C U words (said f)
 faulty_ending C U words (faulty.Words text true) b = b

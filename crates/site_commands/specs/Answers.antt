@@ -57,13 +57,13 @@ AnswersQuery C query has_lines (Some db) files text = (contents : List (List ℕ
     × (held : List EventValue) × AreNumbered held
     × IsReportWith query held (pieces_of has_lines contents) text
 
--- the files were read, and this is the first of them at fault, or the first line at fault
+-- the program's files were read, and this is the first of them at fault, or the first line at fault
 abbrev pub RefusesPiece : (List ℕ → List ℕ → Type 0) → Bool → List (List ℕ) → Refusal → Type 0
 RefusesPiece C has_lines files refusal =
     (contents : List (List ℕ)) × AreContents C files contents × IsInputRefused has_lines contents refusal
 
--- the first file that wasn't read, or, where all were, the first file or line at fault, or, where
--- none was, the database, if one is given
+-- why a query is refused: the first file that wasn't read, or, where all were, the first file or
+-- line at fault, or, where none was, the database, if one is given
 abbrev pub RefusesQuery : (List ℕ → List ℕ → Type 0) → (List ℕ → Unread → Type 0)
     → Bool → Option (List ℕ) → List (List ℕ) → Refusal → Type 0
 RefusesQuery C U has_lines db files (refusal.Unread at) = IsUnreadAt C U files at
@@ -82,24 +82,24 @@ abbrev pub RefusesFiles : (List ℕ → List ℕ → Type 0) → (List ℕ → U
     → Bool → List (List ℕ) → Refusal → Type 0
 RefusesFiles C U has_lines files = RefusesQuery C U has_lines None files
 
--- the text is a page of rows behind a number, or all pages
+-- the printed text is a page of an outbox's rows behind a number, or all pages
 abbrev pub SaysRelay : ℕ → Bool → List ℕ → Type 0
 SaysRelay after false text = SaysRows after text
 SaysRelay after true text = SaysAllRows after text
 
--- the status that an order gets by what is done with it
+-- the status that an order gets by what the command line has done with it
 abbrev pub status_by_action : Action → Status
 status_by_action action.Place = status.Placed
 status_by_action action.Ship = status.Shipped
 status_by_action action.Cancel = status.Cancelled
 
--- the text is the event of the command that was asked for, of the source that was named, if one was
+-- the answer is the event of the command line's command on an order, of the source, if it was named
 abbrev pub AnswersOrder : Request → List ℕ → Type 0
 AnswersOrder r text = SaysOrder r.is_source_named r.source
     (record { status = status_by_action r.action; order = r.order; at = r.at }) text
 
--- what is asked of an order is within what a service allows: its source, the order's number, and
--- the length of the time
+-- what the command line asks of an order is within what a service allows: its source, the order's
+-- number, and the length of the time
 pub record IsAllowedRequest (r : Request) : Type 0 where
   pub filled : is_filled r.source ≡ true
   pub short : length r.source ≤ 1024
@@ -113,8 +113,8 @@ AnswersTake C has_lines files text = (contents : List (List ℕ)) × AreContents
     × (events : List EventValue) × SpellAll (pieces_of has_lines contents) events
     × (fresh : ℕ) × (text ≡ counts_line (length events) fresh)
 
--- the first file that wasn't read, or, where all were, the first file or line at fault, or, where
--- none was, the database
+-- why `take` is refused: the first file that wasn't read, or, where all were, the first file or
+-- line at fault, or, where none was, the database
 abbrev pub RefusesTake : (List ℕ → List ℕ → Type 0) → (List ℕ → Unread → Type 0)
     → Bool → List (List ℕ) → Refusal → Type 0
 RefusesTake C U has_lines files (refusal.Unread at) = IsUnreadAt C U files at
@@ -133,19 +133,19 @@ abbrev pub HasSummary : (List ℕ → List ℕ → Type 0) → List ℕ → Sour
 HasSummary C file s = (bytes : List ℕ) × C file bytes
     × (words : List ℕ) × WithoutLineEnd bytes words × (words ≡ summary_text s)
 
--- the text is the page, from a place on, of what the summary lacks of some events, or all pages
+-- the answer is the page, from a place on, of what a file's summary lacks of events, or all pages
 abbrev pub SaysLacking : Sources → Pages → List ℕ → Type 0
 SaysLacking s (pages.Behind n) text = SaysDelta s n text
 SaysLacking s pages.All text =
     (events : List EventValue) × HasDelta s events × (text ≡ pages_text events)
 
--- the text is the page of some events from a place on, or all pages
+-- the printed answer is the page of some events from a place on, or all pages
 abbrev pub SaysPages : Pages → List ℕ → Type 0
 SaysPages (pages.Behind n) text = SaysPage n text
 SaysPages pages.All text =
     (events : List EventValue) × HasEvents events × (text ≡ pages_text events)
 
--- the text is the page of some events behind the first so many, or all pages
+-- the printed answer is the page of some events behind the first so many, or all pages
 abbrev pub SaysArrived : ℕ → Bool → List ℕ → Type 0
 SaysArrived after false text = SaysArrivals after text
 SaysArrived after true text =
@@ -156,7 +156,7 @@ SaysArrived after true text =
 abbrev pub AnswersDelta : (List ℕ → List ℕ → Type 0) → Pages → List ℕ → List ℕ → Type 0
 AnswersDelta C which file text = (s : Sources) × HasSummary C file s × SaysLacking s which text
 
--- the file wasn't read, or, where it was, has no summary, or, where it has one, the database
+-- why `delta` is refused: the file wasn't read, or has no summary, or, if it has one, the database
 abbrev pub RefusesDelta : (List ℕ → List ℕ → Type 0) → (List ℕ → Unread → Type 0)
     → List ℕ → Refusal → Type 0
 RefusesDelta C U file (refusal.Unread at) = U file at.why
@@ -166,19 +166,19 @@ RefusesDelta C U file (refusal.Database why) =
     ((s : Sources) × HasSummary C file s) × OrOfNamed IsUntold why
 RefusesDelta C U file _ = ⊥
 
--- the database is the cause, by such a fault of the command or by one of its file
+-- the database is the cause of the program's refusal, by a command's fault or by one of its file
 abbrev pub IsOfDatabase : (CommandFault → Type 0) → Refusal → Type 0
 IsOfDatabase Fails (refusal.Database why) = OrOfNamed Fails why
 IsOfDatabase Fails _ = ⊥
 
--- all files were read, and the text tells of a run of the feeds
+-- all files were read, and the answer tells of a run of the feeds
 abbrev pub AnswersRun : (List ℕ → List ℕ → Type 0) → Option (List ℕ) → List (List ℕ) → Bool
     → List ℕ → Type 0
 AnswersRun C peer files has_lines text = (contents : List (List ℕ))
     × AreContents C (files_of_run peer files) contents
     × AnswersJobs (is_some peer) has_lines contents text
 
--- the first file that wasn't read; or, where all were, what came of them
+-- why a run is refused: the first file that wasn't read; or, where all were, what came of them
 abbrev pub RefusesRun : (List ℕ → List ℕ → Type 0) → (List ℕ → Unread → Type 0)
     → Option (List ℕ) → List (List ℕ) → Bool → Refusal → Type 0
 RefusesRun C U peer files has_lines (refusal.Unread at) =
@@ -187,7 +187,7 @@ RefusesRun C U peer files has_lines refusal = (contents : List (List ℕ))
     × AreContents C (files_of_run peer files) contents
     × RefusesJobs (is_some peer) has_lines contents refusal
 
--- the text is the answer to the plan, which has one
+-- the text is the program's answer to the plan, which has one
 abbrev pub AnswersOnce : (List ℕ → List ℕ → Type 0) → Once → List ℕ → Type 0
 AnswersOnce C (once.Ask query db files has_lines) text =
     AnswersQuery C query has_lines db files text
@@ -202,7 +202,7 @@ AnswersOnce C (once.Relay db after is_all) text = SaysRelay after is_all text
 AnswersOnce C (once.Part count place files has_lines) text =
     AnswersPart C count place has_lines files text
 
--- the text is the answer to the plan
+-- the text is the program's answer to the plan
 abbrev pub AnswersPlan : (List ℕ → List ℕ → Type 0) → Plan → List ℕ → Type 0
 AnswersPlan C (plan.Alone (alone.Once asked)) text = AnswersOnce C asked text
 AnswersPlan C (plan.Alone (alone.Follow lines)) text = AnswersFollow C lines.file text
@@ -212,7 +212,7 @@ AnswersPlan C (plan.Alone (alone.Combine asked)) text = AnswersCombine C asked t
 AnswersPlan C (plan.Alone (alone.Split asked)) text = AnswersSplit C asked text
 AnswersPlan C (plan.Run run) text = AnswersRun C run.peer run.files run.has_lines text
 
--- this is why the plan, which would have one answer, has none
+-- this is why the program's plan, which would have one answer, has none
 abbrev pub RefusesOnce : (List ℕ → List ℕ → Type 0) → (List ℕ → Unread → Type 0)
     → Once → Refusal → Type 0
 RefusesOnce C U (once.Ask query db files has_lines) refusal =
@@ -230,8 +230,8 @@ RefusesOnce C U (once.Relay db after is_all) refusal = IsOfDatabase IsNoRows ref
 RefusesOnce C U (once.Part count place files has_lines) refusal =
     RefusesQuery C U has_lines None files refusal
 
--- this is why the plan has no answer; a stream says how it ended by itself, and so do answers of
--- parts
+-- this is why the program's plan has no answer; a stream says how it ended by itself, and so do
+-- answers of parts
 abbrev pub RefusesPlan : (List ℕ → List ℕ → Type 0) → (List ℕ → Unread → Type 0)
     → Plan → Refusal → Type 0
 RefusesPlan C U (plan.Alone (alone.Once asked)) refusal = RefusesOnce C U asked refusal
@@ -243,7 +243,7 @@ RefusesPlan C U (plan.Alone (alone.Split asked)) refusal =
     RefusesQuery C U asked.has_lines None asked.files refusal
 RefusesPlan C U (plan.Run run) refusal = RefusesRun C U run.peer run.files run.has_lines refusal
 
--- what is asked of a service, an order or parts is within what is allowed
+-- what a plan asks of a service, an order or parts is within what is allowed
 abbrev pub IsAllowedOnce : Once → Type 0
 IsAllowedOnce (once.Ask query db files has_lines) = Unit {0}
 IsAllowedOnce (once.Summary db) = Unit {0}
@@ -257,7 +257,7 @@ IsAllowedOnce (once.Order request) = IsAllowedRequest request
 IsAllowedOnce (once.Relay db after is_all) = Unit {0}
 IsAllowedOnce (once.Part count place files has_lines) = IsCountOfParts count × IfSome place (λ i. i < count)
 
--- what one thread is asked for is so
+-- what a plan for one thread asks is within what is allowed
 abbrev pub IsAllowedAlone : Alone → Type 0
 IsAllowedAlone (alone.Once asked) = IsAllowedOnce asked
 IsAllowedAlone (alone.Follow lines) = Unit {0}
@@ -266,7 +266,7 @@ IsAllowedAlone (alone.Number lines) = Unit {0}
 IsAllowedAlone (alone.Combine asked) = Unit {0}
 IsAllowedAlone (alone.Split asked) = IsCountOfParts asked.count
 
--- and what a plan is
+-- what any plan of the program asks is within what is allowed
 abbrev pub IsAllowedPlan : Plan → Type 0
 IsAllowedPlan (plan.Alone asked) = IsAllowedAlone asked
 IsAllowedPlan (plan.Run run) = AreFew (is_some run.peer) (length run.files)

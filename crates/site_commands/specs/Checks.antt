@@ -27,7 +27,7 @@ use Rattle.site_commands.specs.declared.line.Refusal.{Refusal}
 use Rattle.site_commands.specs.declared.line.Refusal.TheVariants as refusal
 use Rattle.site_commands.specs.declared.pieces.LineAt.{LineAt}
 
--- what to do about a refusal of `number`
+-- the hint on what to do about a refusal of `number`
 abbrev pub number_hint : LineRefusal → List ℕ
 number_hint (line.Read (read.BadEvent index why)) = hint why
 number_hint (line.Read why) = whole_hint why
@@ -40,23 +40,23 @@ number_hint (line.Number (number.Full index)) =
     codes "the source has no number left up to 9223372036854775807"
 number_hint (line.Aside index) = codes "its sequence can't stand under that name"
 
--- the line that says why `number` refuses what has this name; none where it doesn't
+-- the line of `check` on why `number` refuses what has this name; none where it doesn't
 abbrev pub refusal_line : List ℕ → Option LineRefusal → List ℕ
 refusal_line name None = []
 refusal_line name (Some why) = line_with (string_text name) (words_of_refusal why) (number_hint why)
 
--- the text is the line that says why `number` refuses the bytes, which have this name, or none
+-- the text is `check`'s line on why `number` refuses the bytes, which have this name, or none
 abbrev pub TellsRefusal : List ℕ → List ℕ → List ℕ → Type 0
 TellsRefusal name bytes text = (why : Option LineRefusal)
     × ((events : List EventValue) × IsJudgedToNumber None bytes why events) × (text ≡ refusal_line name why)
 
--- the text has the lines of what is at fault in the bytes, which have this name: as sites take
--- them, or as `number` does
+-- the text has the lines of `check` on what is at fault in the bytes, which have this name: as
+-- sites take them, or as `number` does
 abbrev pub IsFaultOf : Bool → List ℕ → List ℕ → List ℕ → Type 0
 IsFaultOf false name bytes text = IsFaultText name bytes text
 IsFaultOf true name bytes text = TellsRefusal name bytes text
 
--- the text has these lines of contents, file by file, one content for each name
+-- the text has these lines of `check` on files' contents, file by file, one content for each name
 abbrev pub AreFaultsOf : Bool → List (List ℕ) → List (List ℕ) → List ℕ → Type 0
 AreFaultsOf is_for_number [] [] text = text ≡ []
 AreFaultsOf is_for_number (file ∷ files) (bytes ∷ contents) text = (lines : List ℕ)
@@ -64,51 +64,51 @@ AreFaultsOf is_for_number (file ∷ files) (bytes ∷ contents) text = (lines : 
     × AreFaultsOf is_for_number files contents rest × (text ≡ lines ++ rest)
 AreFaultsOf is_for_number _ _ text = ⊥
 
--- the names of what is judged of these files: their own, or those of their lines
+-- the names of what `check` judges of these files: their own, or those of their lines
 abbrev pub piece_names : Bool → List (List ℕ) → List LineAt → List (List ℕ)
 piece_names false files places = files
 piece_names true files places = line_names files places
 
--- all files were read, and the text has the lines of what is at fault in them
+-- all files of `check` were read, and the text has the lines of what is at fault in them
 abbrev pub TellsFaults : (List ℕ → List ℕ → Type 0) → Bool → Bool → List (List ℕ) → List ℕ → Type 0
 TellsFaults C is_for_number has_lines files text = (contents : List (List ℕ))
     × AreContents C files contents × AreFaultsOf is_for_number (piece_names has_lines files (places_in has_lines contents))
     (pieces_of has_lines contents) text
 
--- memory ran out, or this is the first file that wasn't read
+-- `check` is refused: memory ran out, or this is the first file that wasn't read
 abbrev pub RefusesCheck : (List ℕ → List ℕ → Type 0) → (List ℕ → Unread → Type 0)
     → List (List ℕ) → Refusal → Type 0
 RefusesCheck C U files (refusal.Unread at) = IsUnreadAt C U files at
 RefusesCheck C U files _ = ⊥
 
--- the text tells of the database of this name, and it is sound; or says what is the matter with it,
--- which is a name that is no file's only where this is one
+-- the text of `check` tells of the database of this name, and it is sound; or says what is the
+-- matter with it, which is a name that is no file's only where this is one
 abbrev pub TellsDatabase : List ℕ → Bool → List ℕ → Type 0
 TellsDatabase db true text = SaysDatabase db text
 TellsDatabase db false text = (why : Trouble) × (why ≢ OutOfMemory) × (why ≡ NoFile → IsNoFile db)
     × (text ≡ trouble_line db why)
 
--- so it does where a database is given; where none is, it is empty
+-- the text of `check` tells of the database that is given; where none is, it is empty
 abbrev pub TellsGiven : Option (List ℕ) → Bool → List ℕ → Type 0
 TellsGiven None sound text = (sound ≡ true) × (text ≡ [])
 TellsGiven (Some db) sound text = TellsDatabase db sound text
 
--- the text tells of the database, which is sound or isn't, and behind it has the lines of what is
--- at fault in the files
+-- the text of `check` tells of the database, which is sound or isn't, and behind it has the lines
+-- of what is at fault in the files
 pub record Checks (C : List ℕ → List ℕ → Type 0) (judged : Check) (sound : Bool)
     (told lines text : List ℕ) : Type 0 where
   pub database : TellsGiven judged.db sound told
   pub faults : TellsFaults C judged.is_for_number judged.has_lines judged.files lines
   pub both : text ≡ told ++ lines
 
--- nothing is at fault: the text tells of the database alone
+-- `check` finds nothing at fault: the text tells of the database alone
 pub record FindsNone (C : List ℕ → List ℕ → Type 0) (judged : Check) (text : List ℕ) : Type 0 where
   pub told : List ℕ
   pub lines : List ℕ
   pub checks : Checks C judged true told lines text
   pub empty : lines ≡ []
 
--- something is: the database, or an event of the files
+-- `check` finds something at fault: the database, or an event of the files
 pub record FindsSome (C : List ℕ → List ℕ → Type 0) (judged : Check) (text : List ℕ) : Type 0 where
   pub sound : Bool
   pub told : List ℕ
@@ -116,7 +116,7 @@ pub record FindsSome (C : List ℕ → List ℕ → Type 0) (judged : Check) (te
   pub checks : Checks C judged sound told lines text
   pub some : (sound ≡ false) ⊎ (lines ≢ [])
 
--- what a check comes to
+-- what the command `check` comes to
 abbrev pub IsCheckEnding : (List ℕ → List ℕ → Type 0) → (List ℕ → Unread → Type 0)
     → Check → Ending → Type 0
 IsCheckEnding C U judged (ending.Answer text) = FindsNone C judged text

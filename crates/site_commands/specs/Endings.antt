@@ -15,13 +15,13 @@ use Rattle.site_commands.specs.Numbers.{NumbersFile, NumbersUnsaid, RefusesNumbe
 use Rattle.site_commands.specs.Streams.{FollowsAll, FollowsPart, RefusesFollow}
 use Rattle.site_commands.specs.declared.line.Refusal.{Refusal}
 
--- the stream grew by the text and the status is this one, or the writing failed: the stream grew
--- by a front of the text, and the status is 1
+-- the standard stream grew by the text and the exit status is this one, or the writing failed: it
+-- grew by a front of the text, and the status is 1
 abbrev pub Writes : ℕ → ℕ → Option (List ℕ) → Option (List ℕ) → List ℕ → Type 0
 Writes result status old new text = ((result ≡ status) × Appends old new text)
     ⊎ ((result ≡ 1) × (rest : List ℕ) × Wrote old new text rest)
 
--- the stream grew by the text, or, where the writing failed, by a front of it
+-- the standard stream grew by the text, or, where the writing failed, by a front of it
 abbrev pub GrowsBy : Option (List ℕ) → Option (List ℕ) → List ℕ → Type 0
 GrowsBy old new text = Appends old new text ⊎ ((rest : List ℕ) × Wrote old new text rest)
 
@@ -36,7 +36,7 @@ EndsPages events result out out' err err' =
     ⊎ ((done : ℕ) × Appends out out' (pages_below done events)
     × Writes result 1 err err' memory_line)))
 
--- the streams are standard output, then standard error, before and after
+-- how the program ends; the streams are standard output, then standard error, before and after
 abbrev pub Ends : Ending → ℕ → Option (List ℕ) → Option (List ℕ)
     → Option (List ℕ) → Option (List ℕ) → Type 0
 Ends (ending.Answer text) result out out' err err' = Writes result 0 out out' text × Keeps err err'

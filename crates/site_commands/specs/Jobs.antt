@@ -22,13 +22,13 @@ use Rattle.site_commands.specs.declared.pieces.RefusedLine.{RefusedLine}
 
 -- ---- lines as a batch
 
--- the lines spell these events, one line behind the other
+-- the lines of a file spell these events, one line behind the other
 abbrev pub SpellLines : List FileLine → List EventValue → Type 0
 SpellLines [] events = events ≡ []
 SpellLines (line ∷ lines) events = (own : List EventValue) × (rest : List EventValue)
     × Reads line.bytes own × SpellLines lines rest × (events ≡ own ++ rest)
 
--- this is the first of the lines that spells no events, and why
+-- this is the first of a file's lines that spells no events, and why
 abbrev pub IsFirstUnreadLine : List FileLine → RefusedLine → Type 0
 IsFirstUnreadLine [] refused = ⊥
 IsFirstUnreadLine (line ∷ lines) refused =
@@ -41,20 +41,20 @@ abbrev pub IsBatchOf : ℕ → List ℕ → List ℕ → Type 0
 IsBatchOf file bytes text = (events : List EventValue)
     × SpellLines (lines_from file 0 (lines_of bytes)) events × (text ≡ batch_text events)
 
--- the texts are the batches of these files, the first of which stands at this place
+-- the texts are the batches of a run's files, the first of which stands at this place
 abbrev pub AreBatches : ℕ → List (List ℕ) → List (List ℕ) → Type 0
 AreBatches first [] [] = Unit {0}
 AreBatches first (bytes ∷ contents) (text ∷ texts) =
     IsBatchOf first bytes text × AreBatches (suc first) contents texts
 AreBatches first _ _ = ⊥
 
--- feeds read this of the contents of files, the first of which stands at this place: each as a
--- whole, or the batch of its lines
+-- feeds of a run read this of the contents of files, the first of which stands at this place: each
+-- as a whole, or the batch of its lines
 abbrev pub AreFeeds : Bool → ℕ → List (List ℕ) → List (List ℕ) → Type 0
 AreFeeds false first contents feeds = feeds ≡ contents
 AreFeeds true first contents feeds = AreBatches first contents feeds
 
--- memory ran out, or one of the lines spells no events
+-- memory ran out, or one of the lines of a feed's file spells no events
 abbrev pub IsLineFeedFault : List FileLine → FeedFault → Type 0
 IsLineFeedFault lines feed.OutOfMemory = Unit {0}
 IsLineFeedFault lines (feed.Line refused) = IsFirstUnreadLine lines refused
@@ -67,7 +67,7 @@ ArePeers false has_lines contents peers = peers ≡ []
 ArePeers true has_lines contents peers = (events : List EventValue)
     × SpellAll (pieces_of has_lines (take 1 contents)) events × (peers ≡ peer_of events ∷ [])
 
--- the first content is a peer's, and it is refused, or a line of it
+-- the first content of a run is a peer's, and it is refused, or a line of it
 abbrev pub RefusesPeer : Bool → Bool → List (List ℕ) → Refusal → Type 0
 RefusesPeer false has_lines contents refusal = ⊥
 RefusesPeer true has_lines contents refusal = IsInputRefused has_lines (take 1 contents) refusal
@@ -77,13 +77,13 @@ abbrev pub feeds_in : Bool → List (List ℕ) → List (List ℕ)
 feeds_in false contents = contents
 feeds_in true contents = drop 1 contents
 
--- the place of the first of them
+-- the place of the first feed's file of a run
 abbrev pub first_feed : Bool → ℕ
 first_feed false = 0
 first_feed true = 1
 
--- the text tells of a run of the feeds of these contents, the first of which stands at this place,
--- and each peer brought what it was to bring
+-- the answer tells of a run of the feeds of these files' contents, the first of which stands at
+-- this place, and each peer brought what it was to bring
 abbrev pub AnswersFeeds : Bool → ℕ → List (List ℕ) → List (List EventValue) → List ℕ → Type 0
 AnswersFeeds has_lines first contents peers text = (feeds : List (List ℕ))
     × AreFeeds has_lines first contents feeds × IsOutcome feeds peers (Ok text)
@@ -102,8 +102,8 @@ pub record RefusesFeed (first : ℕ) (feeds : List (List ℕ)) (peers : List (Li
   pub refuses : Refuses bytes fault
   pub told : IsOutcome feeds peers (Err (run.Feed feed fault))
 
--- a line of these contents is the first at fault, and nothing else was done; or else a feed is at
--- fault, the database or a thread
+-- a line of these contents of a run's files is the first at fault, and nothing else was done; or
+-- else a feed is at fault, the database or a thread
 abbrev pub RefusesFeeds : Bool → ℕ → List (List ℕ) → List (List EventValue) → Refusal → Type 0
 RefusesFeeds has_lines first contents peers (refusal.Line refused) =
     (has_lines ≡ true) × IsFirstUnreadLine (lines_behind first contents) refused
@@ -118,13 +118,13 @@ RefusesFeeds has_lines first contents peers _ = ⊥
 
 -- ---- jobs
 
--- the peer's content spells events, and the text tells of a run of the feeds beside it
+-- the content of a run's peer spells events, and the answer tells of a run of the feeds beside it
 abbrev pub AnswersJobs : Bool → Bool → List (List ℕ) → List ℕ → Type 0
 AnswersJobs has_peer has_lines contents text = (peers : List (List EventValue))
     × ArePeers has_peer has_lines contents peers
     × AnswersFeeds has_lines (first_feed has_peer) (feeds_in has_peer contents) peers text
 
--- the peer's content is refused; or, where it spells events, this came of the feeds
+-- the content of a run's peer is refused; or, where it spells events, this came of the feeds
 abbrev pub RefusesJobs : Bool → Bool → List (List ℕ) → Refusal → Type 0
 RefusesJobs has_peer has_lines contents refusal = RefusesPeer has_peer has_lines contents refusal
     ⊎ ((peers : List (List EventValue)) × ArePeers has_peer has_lines contents peers

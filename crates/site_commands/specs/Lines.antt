@@ -21,71 +21,71 @@ use Rattle.site_commands.specs.declared.pieces.LineAt.{LineAt}
 
 -- ---- names of files
 
--- a backslash and a letter
+-- a backslash and a letter, in a name in an error line
 abbrev pub escape : ℕ → List ℕ
 escape letter = 92 ∷ letter ∷ []
 
--- a control character as `\u00` with two lower-case hexadecimal digits, any other as it is
+-- a control character of a name as `\u00` and two lower-case hexadecimal digits, any other as it is
 abbrev pub other_char : ℕ → List ℕ
 other_char c =
     if is_control c then 92 ∷ 117 ∷ 48 ∷ 48 ∷ digit_char (c / 16 % 16) ∷ digit_char (c % 16) ∷ []
     else encode_utf8 c
 
--- a control character as in a JSON string (RFC 8259, section 7), the usual ones as `\b`, `\t`,
--- `\n`, `\f`, `\r`; any other character as it is
+-- a control character of a file's name as in a JSON string (RFC 8259, section 7), the usual ones as
+-- `\b`, `\t`, `\n`, `\f`, `\r`; any other character as it is
 abbrev pub name_char : ℕ → List ℕ
 name_char c =
     if c == 8 then escape 98 else if c == 9 then escape 116 else if c == 10 then escape 110
     else if c == 12 then escape 102
     else if c == 13 then escape 114 else other_char c
 
--- a file's name in a line
+-- a file's name in an error line
 abbrev pub printed_name : List ℕ → List ℕ
 printed_name name = flat_map name_char (chars name)
 
--- the name at a place, from 0
+-- the name at a place, from 0, of a plan's files
 abbrev pub name_at : List (List ℕ) → ℕ → List ℕ
 name_at names file = unwrap_or (slice_get names file) []
 
--- `FILE line N`
+-- `FILE line N`, which names a line of a file in an error line
 abbrev pub line_name : List ℕ → ℕ → List ℕ
 line_name name number = name ++ codes " line " ++ decimal number
 
--- the names of lines of these files
+-- the names of lines of these files in error lines
 abbrev pub line_names : List (List ℕ) → List LineAt → List (List ℕ)
 line_names files places = map (λ at. line_name (name_at files at.file) at.line) places
 
 -- ---- the lines
 
--- `site: FILE: WORDS`
+-- the error line `site: FILE: WORDS`
 abbrev pub file_line : List ℕ → List ℕ → List ℕ
 file_line name words = codes "site: " ++ printed_name name ++ codes ": " ++ words ++ 10 ∷ []
 
--- `site: out of memory`
+-- the error line `site: out of memory`
 abbrev pub memory_line : List ℕ
 memory_line = codes "site: out of memory" ++ 10 ∷ []
 
--- a word of the command line isn't UTF-8
+-- the error line that a word of the command line isn't UTF-8
 abbrev pub arguments_line : List ℕ
 arguments_line = codes "site: the arguments aren't text" ++ 10 ∷ []
 
--- a file of this name was not read
+-- the error line that a file of this name was not read
 abbrev pub unread_line : List ℕ → Unread → List ℕ
 unread_line name unread.OutOfMemory = memory_line
 unread_line name unread.CannotRead = file_line name (codes "cannot read")
 unread_line name unread.TooLarge = file_line name (codes "too large")
 
--- a file of this name is at fault
+-- the error line that a file of this name is at fault
 abbrev pub file_fault_line : List ℕ → ReportFault → List ℕ
 file_fault_line name report.OutOfMemory = memory_line
 file_fault_line name (report.Read read.OutOfMemory) = memory_line
 file_fault_line name why = file_line name (words_of why)
 
--- so many lines of an input were at fault
+-- the error line that so many lines of an input were at fault
 abbrev pub lines_line : ℕ → List ℕ
 lines_line faults = codes "site: " ++ decimal faults ++ (codes " lines refused" ++ 10 ∷ [])
 
--- the summary in a file of this name is at fault
+-- the error line that the summary in a file of this name is at fault
 abbrev pub summary_fault_line : List ℕ → SummaryFault → List ℕ
 summary_fault_line name summary.OutOfMemory = memory_line
 summary_fault_line name summary.NotJson = file_line name (codes "not JSON")
@@ -93,11 +93,11 @@ summary_fault_line name summary.Shape = file_line name (codes "Shape")
 summary_fault_line name summary.Version = file_line name (codes "Version")
 summary_fault_line name summary.NotCanonical = file_line name (codes "NotCanonical")
 
--- `site: order N: NAME`
+-- the error line `site: order N: NAME`
 abbrev pub order_line : ℕ → List ℕ → List ℕ
 order_line number name = codes "site: order " ++ decimal number ++ codes ": " ++ name ++ 10 ∷ []
 
--- a command over the database of this name, about this order, has no answer
+-- the error line that a command over the database of this name, about this order, has no answer
 abbrev pub database_fault_line : List ℕ → ℕ → CommandFault → List ℕ
 database_fault_line db number database.OutOfMemory = memory_line
 database_fault_line db number database.Store = file_line db (codes "Store")
@@ -112,13 +112,13 @@ database_fault_line db number database.CannotRead = file_line db (codes "cannot 
 database_fault_line db number database.Cache =
     codes "site: SITE_CACHE_MIB isn't a whole number from 1 to 1048576" ++ 10 ∷ []
 
--- the lines of what was made: the file of this database, a service in it
+-- the program's lines of what was made: the file of this database, a service in it
 abbrev pub made_lines : Bool → Bool → List ℕ → List ℕ
 made_lines file service db =
     (if file then file_line db (codes "made, it wasn't there") else [])
     ++ (if service then file_line db (codes "a service /orders was made in it") else [])
 
--- the one line of a refusal of a plan that names these
+-- the one error line of a refusal of a plan that names these
 abbrev pub line_of : Names → Refusal → List ℕ
 line_of names (refusal.Unread at) = unread_line (name_at names.files at.file) at.why
 line_of names (refusal.File refused) = file_fault_line (name_at names.files refused.file) refused.fault

@@ -19,13 +19,13 @@ abbrev pub files_of_run : Option (List ℕ) → List (List ℕ) → List (List �
 files_of_run None files = files
 files_of_run (Some peer) files = peer ∷ files
 
--- a database, empty where there is none; an order, 0 where there is none; and files
+-- what an error line names: a database, empty if there is none; an order, 0 if none; and files
 pub record Names : Type 0 where
   pub db : List ℕ
   pub order : ℕ
   pub files : List (List ℕ)
 
--- what a plan with one answer names
+-- what an error line names of a plan with one answer
 abbrev pub of_once : Once → Names
 of_once (once.Ask query db files has_lines) = record { db = unwrap_or db []; order = 0; files = files }
 of_once (once.Summary db) = record { db = db; order = 0; files = [] }
@@ -42,27 +42,27 @@ of_once (once.Part count place files has_lines) = record { db = []; order = 0; f
 abbrev pub names_of_follow : Follow → Names
 names_of_follow lines = record { db = lines.db; order = 0; files = lines.file ∷ [] }
 
--- what a stream of lines that are numbered names
+-- what an error line names of a stream of lines that are numbered
 abbrev pub of_number : Number → Names
 of_number lines = record { db = lines.db; order = 0; files = lines.file ∷ [] }
 
--- what a check names where it is refused, which is for a file alone
+-- what an error line names of `check` where it is refused, which is for a file alone
 abbrev pub of_check : Check → Names
 of_check judged = record { db = []; order = 0; files = judged.files }
 
--- what the answers of parts name
+-- what an error line names of the answers of parts
 abbrev pub of_combine : Combine → Names
 of_combine asked = record { db = []; order = 0; files = asked.files }
 
--- what a plan of parts names where it is refused for a file that it reads
+-- what an error line names of a plan of parts where it is refused for a file that it reads
 abbrev pub of_split : Split → Names
 of_split asked = record { db = []; order = 0; files = asked.files }
 
--- what a run names, its peer's file first
+-- what an error line names of a run, its peer's file first
 abbrev pub of_run : Run → Names
 of_run run = record { db = run.db; order = 0; files = files_of_run run.peer run.files }
 
--- what a plan names
+-- what an error line names of a plan
 abbrev pub of_plan : Plan → Names
 of_plan (plan.Alone (alone.Once asked)) = of_once asked
 of_plan (plan.Alone (alone.Follow lines)) = names_of_follow lines
@@ -72,12 +72,12 @@ of_plan (plan.Alone (alone.Combine asked)) = of_combine asked
 of_plan (plan.Alone (alone.Split asked)) = of_split asked
 of_plan (plan.Run run) = of_run run
 
--- the files, one of them before the others where there is one
+-- the files that an error line names, one of them before the others where there is one
 abbrev first_of : Option (Bor (List ℕ)) → List (List ℕ) → List (List ℕ)
 first_of None files = files
 first_of (Some first) files = first.now ∷ files
 
--- what is lent
+-- the names of a plan that are lent to an error line
 abbrev pub lent : Lent → Names
 lent names = record {
   db = names.db.now;

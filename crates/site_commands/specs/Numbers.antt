@@ -23,7 +23,7 @@ use Rattle.site_commands.specs.declared.line.Refusal.TheVariants as refusal
 use Rattle.site_commands.specs.declared.stream.StreamEnd.{StreamEnd}
 use Rattle.site_commands.specs.declared.stream.StreamEnd.TheVariants as end
 
--- the text has each line's events with numbers, and no line is refused
+-- `number` answers each line's events with numbers, and no line is refused
 pub record AnswersNumbering (C : List ℕ → List ℕ → Type 0) (lines : Number) (text : List ℕ)
     : Type 0 where
   pub bytes : List ℕ
@@ -36,28 +36,28 @@ pub record AnswersNumbering (C : List ℕ → List ℕ → Type 0) (lines : Numb
   pub is : text ≡ numbered_text tells answers
   pub faultless : refusals_in tells ≡ 0
 
--- every line is answered, and so many are refused
+-- `number` answers every line of the file, and so many are refused
 pub record NumbersFile (C : List ℕ → List ℕ → Type 0) (lines : Number)
     (out out' err err' : Option (List ℕ)) (faults : ℕ) : Type 0 where
   pub bytes : List ℕ
   pub of_file : C lines.file bytes
   pub all : NumbersAll lines.aside AreNumberedEach faults (Some bytes) out out' err err'
 
--- some lines are, from the first on
+-- `number` answers some lines of the file, from the first on
 pub record NumbersFront (C : List ℕ → List ℕ → Type 0) (lines : Number)
     (out out' err err' : Option (List ℕ)) : Type 0 where
   pub bytes : List ℕ
   pub of_file : C lines.file bytes
   pub some : NumbersSome lines.aside AreNumberedEach (Some bytes) out out' err err'
 
--- so they are but for the rests of the texts, which weren't written
+-- `number` answers the file's lines but for the rests of the texts, which weren't written
 pub record NumbersUnsaid (C : List ℕ → List ℕ → Type 0) (lines : Number)
     (out out' err err' : Option (List ℕ)) : Type 0 where
   pub bytes : List ℕ
   pub of_file : C lines.file bytes
   pub part : NumbersRest lines.aside AreNumberedEach (Some bytes) out out' err err'
 
--- the refusal of a numberer
+-- what refusal of the command `number` a numberer's is
 abbrev pub refusal_of : NumbererFault → Refusal
 refusal_of numberer.OutOfMemory = refusal.Database command.OutOfMemory
 refusal_of (numberer.HasSequence i) = refusal.Database command.Store
@@ -66,7 +66,7 @@ refusal_of (numberer.Full i) = refusal.NoNumber
 refusal_of numberer.Store = refusal.Database command.Store
 refusal_of numberer.Foreign = refusal.Database command.Foreign
 
--- how a stream ended
+-- how the stream of the command `number` ended
 abbrev pub number_end : Result ℕ NumberEnd → StreamEnd
 number_end (Ok faults) = end_of_stream faults
 number_end (Err (number.Database why)) = end.Refused (refusal.Database why)
@@ -74,9 +74,9 @@ number_end (Err (number.Stream (numbering.Input why))) = end.Refused (refusal.Un
 number_end (Err (number.Stream (numbering.Numberer why))) = end.Refused (refusal_of why)
 number_end (Err (number.Stream numbering.Unwritten)) = end.Unwritten
 
--- the file wasn't read, and nothing was written; or, where it was, memory ran out or a read failed,
--- or the database is the cause, and the lines before are answered; or so many of its lines are
--- refused, and every line is answered or told
+-- why `number` is refused: the file wasn't read, and nothing was written; or, where it was, memory
+-- ran out or a read failed, or the database is the cause, and the lines before are answered; or so
+-- many of its lines are refused, and every line is answered or told
 abbrev pub RefusesNumbers : (List ℕ → List ℕ → Type 0) → (List ℕ → Unread → Type 0) → Number
     → Refusal → Option (List ℕ) → Option (List ℕ) → Option (List ℕ) → Option (List ℕ) → Type 0
 RefusesNumbers C U lines (refusal.Unread at) out out' err err' =
@@ -90,7 +90,7 @@ RefusesNumbers C U lines (refusal.Lines faults) out out' err err' =
     (faults ≢ 0) × NumbersFile C lines out out' err err' faults
 RefusesNumbers C U lines _ out out' err err' = ⊥
 
--- what is written where the stream ends so
+-- what the command `number` writes where its stream ends so
 abbrev pub EndsNumbering : (List ℕ → List ℕ → Type 0) → (List ℕ → Unread → Type 0) → Number
     → StreamEnd → Option (List ℕ) → Option (List ℕ) → Option (List ℕ) → Option (List ℕ) → Type 0
 EndsNumbering C U lines end.Done out out' err err' = NumbersFile C lines out out' err err' 0

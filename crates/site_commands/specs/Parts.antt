@@ -31,16 +31,16 @@ pub use Rattle.parts.specs.Whole.{has_covers, no_answer}
 
 -- ---- parts
 
--- sources, each with its part of so many
+-- sources of the files' events, each with its part of so many
 abbrev pub placed : ℕ → List (List ℕ) → List (List ℕ × ℕ)
 placed count sources = map (λ source. (source, part_of count source)) sources
 
--- the text has a line for each source of the set E, in byte order, `["SOURCE",PART]`
+-- the answer has a line for each source of the set E, in byte order, `["SOURCE",PART]`
 abbrev pub SaysSources : ℕ → List EventValue → List ℕ → Type 0
 SaysSources count E text =
     (s : Sources) × Sums E s × (text ≡ kind_lines (placed count (sources_of s)))
 
--- the text says of each source of the files' events to which part it falls, of so many; or it is
+-- `part` says of each source of the files' events to which part it falls, of so many; or it prints
 -- the batch of the events of one part, in the order of the files
 abbrev pub AnswersPart : (List ℕ → List ℕ → Type 0) → ℕ → Option ℕ → Bool → List (List ℕ)
     → List ℕ → Type 0
@@ -55,7 +55,7 @@ AnswersPart C count (Some place) has_lines files text = (contents : List (List �
 
 -- ---- the answers of parts
 
--- the covers that stand beside the answers to the question, of those that are given
+-- the given files of covers that stand beside the answers to the question
 abbrev pub covers_beside : Query → List (List ℕ) → List (List ℕ)
 covers_beside q covers = if has_covers q then covers else []
 
@@ -66,7 +66,7 @@ pub record IsWholeOfFiles (q : Query) (answers covers : List (List ℕ)) (text :
       → ArePartsOf q p E answers covers → IsAnswer q E text
   pub apart : AreApartIn q answers covers
 
--- the files were read, and the text is their contents' whole
+-- the files of parts' answers were read, and the text is their contents' whole
 pub record AnswersCombine (C : List ℕ → List ℕ → Type 0) (asked : Combine) (text : List ℕ)
     : Type 0 where
   pub answers : List (List ℕ)
@@ -77,30 +77,30 @@ pub record AnswersCombine (C : List ℕ → List ℕ → Type 0) (asked : Combin
 
 -- ---- why they make none
 
--- the content at the place isn't UTF-8
+-- the content of the file at the place isn't UTF-8
 abbrev pub IsNoText : List (List ℕ) → ℕ → Type 0
 IsNoText contents i =
     (bytes : List ℕ) × (slice_get contents i ≡ Some bytes) × (IsUtf8 bytes → ⊥)
 
--- memory ran out; or an answer or a cover is none, since it isn't UTF-8; or the texts are refused
+-- `combine` fails: memory ran out; or an answer or a cover isn't UTF-8; or the texts are refused
 abbrev pub RefusesContents : Query → List (List ℕ) → List (List ℕ) → CombineFault → Type 0
 RefusesContents q answers covers f = (f ≡ fault.OutOfMemory)
     ⊎ (((i : ℕ) × (f ≡ no_answer q i) × IsNoText answers i)
     ⊎ (((i : ℕ) × (f ≡ fault.NotACover i) × IsNoText covers i)
     ⊎ RefusesParts q answers covers f))
 
--- the covers are refused by themselves, or they aren't
+-- the covers in the files are refused by themselves, or they aren't
 abbrev pub AreRefused : List (List ℕ) → Bool → Type 0
 AreRefused covers true = (f : CombineFault) × (f ≢ fault.OutOfMemory) × RefusesCovers covers f
 AreRefused covers false = AreApartCovers covers
 
--- a source that stands in two parts is seen in the covers, or it is seen in the answers
+-- a source that stands in two parts is seen in the files of covers, or in those of the answers
 abbrev pub IsOverlapOf : Query → List (List ℕ) → Bool → Type 0
 IsOverlapOf query.Conflicts covers is_of_covers = AreRefused covers is_of_covers
 IsOverlapOf query.Latest covers is_of_covers = AreRefused covers is_of_covers
 IsOverlapOf q covers is_of_covers = is_of_covers ≡ has_covers q
 
--- the fault is of the covers beside the answers, or it is of the answers
+-- the fault is of the files of covers beside the answers, or it is of the answers
 abbrev pub IsOfCovers : Query → List (List ℕ) → CombineFault → Bool → Type 0
 IsOfCovers q covers fault.OutOfMemory is_of_covers = Unit {0}
 IsOfCovers q covers (fault.NotACover i) is_of_covers = is_of_covers ≡ has_covers q
@@ -111,17 +111,17 @@ IsOfCovers q covers (fault.Overlap source i j) is_of_covers = IsOverlapOf q cove
 
 -- ---- the lines
 
--- `site: M covers beside N answers: CoverCount`
+-- the error line `site: M covers beside N answers: CoverCount`
 abbrev pub count_line : ℕ → ℕ → List ℕ
 count_line answers covers = codes "site: " ++ decimal covers ++ codes " covers beside "
     ++ decimal answers ++ (codes " answers: CoverCount" ++ 10 ∷ [])
 
--- `site: FILE: Overlap with FILE: SOURCE`
+-- the error line `site: FILE: Overlap with FILE: SOURCE`
 abbrev pub overlap_line : List ℕ → List ℕ → List ℕ → List ℕ
 overlap_line name other source = codes "site: " ++ printed_name name ++ codes ": Overlap with "
     ++ printed_name other ++ codes ": " ++ printed_name source ++ 10 ∷ []
 
--- the line of a fault of these files
+-- the error line of a fault of these files of parts
 abbrev pub combine_line : List (List ℕ) → CombineFault → List ℕ
 combine_line files fault.OutOfMemory = memory_line
 combine_line files (fault.NotACover i) = file_line (name_at files i) (codes "NotACover")
@@ -131,21 +131,21 @@ combine_line files fault.TooMany = codes "site: the parts: TooMany" ++ 10 ∷ []
 combine_line files (fault.Overlap source i j) =
     overlap_line (name_at files j) (name_at files i) (string_bytes source)
 
--- the line of the first of these files that wasn't read
+-- the error line of the first of these files of parts that wasn't read
 pub record TellsUnread (C : List ℕ → List ℕ → Type 0) (U : List ℕ → Unread → Type 0)
     (files : List (List ℕ)) (text : List ℕ) : Type 0 where
   pub at : UnreadAt
   pub unread : IsUnreadAt C U files at
   pub is_line : text ≡ unread_line (name_at files at.file) at.why
 
--- the answers were read, and the line is that of the first cover that wasn't
+-- the files of answers were read, and the error line is that of the first cover that wasn't
 pub record TellsNoCover (C : List ℕ → List ℕ → Type 0) (U : List ℕ → Unread → Type 0)
     (asked : Combine) (text : List ℕ) : Type 0 where
   pub answers : List (List ℕ)
   pub answers_read : AreContents C asked.files answers
   pub told : TellsUnread C U (covers_beside asked.query asked.covers) text
 
--- the line is that of a fault of these contents, and names the covers or the answers
+-- the error line is that of a fault of these contents, and names the files of covers or answers
 pub record TellsFault (q : Query) (files cover_files answers covers : List (List ℕ))
     (text : List ℕ) : Type 0 where
   pub fault : CombineFault
@@ -154,7 +154,7 @@ pub record TellsFault (q : Query) (files cover_files answers covers : List (List
   pub blamed : IsOfCovers q covers fault is_of_covers
   pub is_line : text ≡ combine_line (if is_of_covers then cover_files else files) fault
 
--- all files were read, and the line is that of a fault of their contents
+-- all files of parts were read, and the error line is that of a fault of their contents
 pub record TellsNoWhole (C : List ℕ → List ℕ → Type 0) (asked : Combine) (text : List ℕ)
     : Type 0 where
   pub answers : List (List ℕ)
@@ -164,13 +164,13 @@ pub record TellsNoWhole (C : List ℕ → List ℕ → Type 0) (asked : Combine)
   pub told : TellsFault asked.query asked.files (covers_beside asked.query asked.covers)
       answers covers text
 
--- the text is the line that says why the files make no answer
+-- the text is the error line that says why the files of parts make no answer
 abbrev pub RefusesCombine : (List ℕ → List ℕ → Type 0) → (List ℕ → Unread → Type 0)
     → Combine → List ℕ → Type 0
 RefusesCombine C U asked text = TellsUnread C U asked.files text
     ⊎ (TellsNoCover C U asked text ⊎ TellsNoWhole C asked text)
 
--- what the answers of parts come to
+-- what `combine` of the files of parts' answers comes to
 abbrev pub IsCombineEnding : (List ℕ → List ℕ → Type 0) → (List ℕ → Unread → Type 0)
     → Combine → Ending → Type 0
 IsCombineEnding C U asked (ending.Answer text) = AnswersCombine C asked text

@@ -16,15 +16,15 @@ pub record FileLine : Type 0 where
   pub at : LineAt
   pub bytes : List ℕ
 
--- white space of JSON (RFC 8259, section 2), but for LF
+-- white space of JSON (RFC 8259, section 2) in a file's line, but for LF
 abbrev pub is_white : ℕ → Bool
 is_white b = b == 32 || b == 9 || b == 13
 
--- there is nothing but white space
+-- there is nothing but white space in a file's line
 abbrev pub is_blank : List ℕ → Bool
 is_blank line = list_all is_white line
 
--- the lines of a text: what stands between its LFs
+-- the lines of a file's text: what stands between its LFs
 abbrev pub lines_of : List ℕ → List (List ℕ)
 lines_of bytes = slice_split (λ b. b == 10) bytes
 
@@ -49,11 +49,11 @@ lines_behind before (bytes ∷ contents) =
 abbrev pub file_lines : List (List ℕ) → List FileLine
 file_lines contents = lines_behind 0 contents
 
--- their bytes
+-- the bytes of the files' lines
 abbrev pub bytes_of_lines : List FileLine → List (List ℕ)
 bytes_of_lines lines = map (λ l. l.bytes) lines
 
--- where they stand
+-- where the lines of the files stand, for error lines
 abbrev pub places_of_lines : List FileLine → List LineAt
 places_of_lines lines = map (λ l. l.at) lines
 
@@ -64,7 +64,7 @@ abbrev pub pieces_of : Bool → List (List ℕ) → List (List ℕ)
 pieces_of false contents = contents
 pieces_of true contents = bytes_of_lines (file_lines contents)
 
--- where these stand, if they are lines
+-- where the lines that are judged of files stand, if they are lines
 abbrev pub places_in : Bool → List (List ℕ) → List LineAt
 places_in false contents = []
 places_in true contents = places_of_lines (file_lines contents)
@@ -83,7 +83,7 @@ pub record IsLineAtFault (contents : List (List ℕ)) (refused : RefusedLine) : 
   pub is_there : slice_get (places_of_lines (file_lines contents)) place ≡ Some refused.at
   pub at_fault : IsAtFault (bytes_of_lines (file_lines contents)) place refused.fault
 
--- memory ran out, or this is the first file at fault, or, where lines are judged, the first line
+-- the input is refused: memory ran out, or it is the first file at fault, or the first judged line
 abbrev pub IsInputRefused : Bool → List (List ℕ) → Refusal → Type 0
 IsInputRefused false contents (refusal.File refused) = IsRefusal contents refused
 IsInputRefused true contents (refusal.Line refused) =

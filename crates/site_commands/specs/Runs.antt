@@ -30,18 +30,18 @@ use Rattle.site_commands.specs.declared.ending.Ending.{Ending}
 use Rattle.site_commands.specs.declared.ending.Ending.TheVariants as ending
 use Rattle.site_commands.specs.declared.line.Refusal.{Refusal}
 
--- the words are a plan, and the text is its answer
+-- the words after the program's name are a plan, and the text is its answer
 pub record AnswersWords (C : List ℕ → List ℕ → Type 0) (words : List (List ℕ))
     (text : List ℕ) : Type 0 where
   pub plan : Plan
   pub planned : IsPlan words plan
   pub answered : AnswersPlan C plan text
 
--- these are the lines of what was made: the file of this database, a service in it
+-- the program tells in these lines what was made: the file of this database, a service in it
 abbrev pub TellsMade : List ℕ → List ℕ → Type 0
 TellsMade db made = (file : Bool) × (service : Bool) × (made ≡ made_lines file service db)
 
--- the words are a plan, the text is its answer, and these are the lines of what was made for it
+-- the command line is a plan, the text its answer, and these the lines of what was made for it
 pub record TellsWords (C : List ℕ → List ℕ → Type 0) (words : List (List ℕ))
     (text made : List ℕ) : Type 0 where
   pub plan : Plan
@@ -49,7 +49,7 @@ pub record TellsWords (C : List ℕ → List ℕ → Type 0) (words : List (List
   pub answered : AnswersPlan C plan text
   pub tells : TellsMade (of_plan plan).db made
 
--- the words are a plan that has no answer, and the text is the line that says why
+-- the command line is a plan that has no answer, and the text is the error line that says why
 pub record RefusesWords (C : List ℕ → List ℕ → Type 0) (U : List ℕ → Unread → Type 0)
     (words : List (List ℕ)) (text : List ℕ) : Type 0 where
   pub plan : Plan
@@ -58,34 +58,34 @@ pub record RefusesWords (C : List ℕ → List ℕ → Type 0) (U : List ℕ →
   pub refused : RefusesPlan C U plan refusal
   pub is_line : text ≡ line_of (of_plan plan) refusal
 
--- the words are a check, and the text has the lines of what is at fault
+-- the words are a `check`, and the text has the lines of what is at fault
 pub record FindsWords (C : List ℕ → List ℕ → Type 0) (words : List (List ℕ))
     (text : List ℕ) : Type 0 where
   pub judged : Check
   pub planned : IsPlan words (plan.Alone (alone.Check judged))
   pub found : FindsSome C judged text
 
--- the words ask for the answers of parts as one, and the text is the line that says why there is none
+-- the command line asks for the answers of parts as one, and the text is the error line on why not
 pub record UncombinedWords (C : List ℕ → List ℕ → Type 0) (U : List ℕ → Unread → Type 0)
     (words : List (List ℕ)) (text : List ℕ) : Type 0 where
   pub asked : Combine
   pub planned : IsPlan words (plan.Alone (alone.Combine asked))
   pub refused : RefusesCombine C U asked text
 
--- the words ask for parts in files, and the text is the line of the first that wasn't saved
+-- the words ask for parts in files, and the text is the error line of the first that wasn't saved
 pub record UnsavedWords (C : List ℕ → List ℕ → Type 0) (words : List (List ℕ))
     (text : List ℕ) : Type 0 where
   pub asked : Split
   pub planned : IsPlan words (plan.Alone (alone.Split asked))
   pub refused : RefusesSplit C asked text
 
--- the line of a refusal of a plan that names these, or want of memory for it
+-- the error line of a refusal of a plan that names these, or want of memory for it
 abbrev pub IsLine : Names → Refusal → Ending → Type 0
 IsLine names refusal (ending.Refused text hint) = text ≡ line_of names refusal
 IsLine names refusal ending.NoMemory = Unit {0}
 IsLine names refusal _ = ⊥
 
--- the answer, and the lines of what was made for it, or want of memory for these
+-- the program's answer, and the lines of what was made for it, or want of memory for these
 abbrev pub IsToldBeside : List ℕ → Bool → Bool → List ℕ → Ending → Type 0
 IsToldBeside db file service text (ending.Answer printed) =
     (printed ≡ text) × (file ≡ false) × (service ≡ false)
@@ -94,8 +94,8 @@ IsToldBeside db file service text (ending.Told printed made) =
 IsToldBeside db file service text ending.NoMemory = Unit {0}
 IsToldBeside db file service text _ = ⊥
 
--- what a plan comes to that names these, where the texts are its answers and the refusals why it
--- has none
+-- what a plan of the program comes to that names these, where the texts are its answers and the
+-- refusals why it has none
 abbrev pub ComesTo : (List ℕ → Type 0) → (Refusal → Type 0) → Names → Ending → Type 0
 ComesTo Answers Refuses names (ending.Answer text) = Answers text
 ComesTo Answers Refuses names (ending.Told text made) = Answers text × TellsMade names.db made
@@ -105,20 +105,20 @@ ComesTo Answers Refuses names (ending.Refused text hint) =
 ComesTo Answers Refuses names ending.NoMemory = Unit {0}
 ComesTo Answers Refuses names _ = ⊥
 
--- what a plan with one answer comes to
+-- what a plan of the program with one answer comes to
 abbrev pub IsOnceEnding : (List ℕ → List ℕ → Type 0) → (List ℕ → Unread → Type 0)
     → Once → Ending → Type 0
 IsOnceEnding C U asked ending =
     ComesTo (AnswersOnce C asked) (RefusesOnce C U asked) (of_once asked) ending
 
--- what a run comes to
+-- what a run comes to for the program
 abbrev pub IsRunEnding : (List ℕ → List ℕ → Type 0) → (List ℕ → Unread → Type 0)
     → Run → Ending → Type 0
 IsRunEnding C U run ending = ComesTo (AnswersRun C run.peer run.files run.has_lines)
     (RefusesRun C U run.peer run.files run.has_lines) (of_run run) ending
 
--- what a plan of parts comes to, where old and new are the outputs before and after: the files were
--- read, and their events come to it; or they are refused, and no file was asked to be saved
+-- what a plan of parts in files comes to, where old and new are the outputs before and after: the
+-- files were read, and their events come to it; or they are refused, and no file was to be saved
 abbrev pub IsSplitEnding : (List ℕ → List ℕ → Type 0) → (List ℕ → Unread → Type 0)
     → Split → Option (List Output) → Option (List Output) → Ending → Type 0
 IsSplitEnding C U asked old new ending =
@@ -127,7 +127,7 @@ IsSplitEnding C U asked old new ending =
     ⊎ (ComesTo (λ _. ⊥) (RefusesQuery C U asked.has_lines None asked.files) (of_split asked) ending
     × GrewBy old new [])
 
--- what the words come to
+-- what the words of the command line come to, as the program's ending
 abbrev pub IsEnding : (List ℕ → List ℕ → Type 0) → (List ℕ → Unread → Type 0)
     → List (List ℕ) → Ending → Type 0
 IsEnding C U words (ending.Answer text) = AnswersWords C words text
@@ -141,14 +141,14 @@ IsEnding C U words (ending.Uncombined text hint) = UncombinedWords C U words tex
 IsEnding C U words (ending.Unsaved text hint) = UnsavedWords C words text
 IsEnding C U words ending.NoMemory = Unit {0}
 
--- what is said of faulty words
+-- what the program says of faulty words
 abbrev pub said : Faulty → Ending
 said (faulty.Words text true) = ending.Help text
 said (faulty.Words text false) = ending.Faulty text
 said faulty.OutOfMemory = ending.NoMemory
 
--- the plan comes to an ending, and it is written; or it is a stream, which is written as it goes.
--- Of the system's files it isn't known which are saved
+-- the program's plan comes to an ending, and it is written; or it is a stream, which is written as
+-- it goes. Of the system's files it isn't known which are saved
 abbrev pub RunsAlone : (List ℕ → List ℕ → Type 0) → (List ℕ → Unread → Type 0) → Alone → ℕ
     → Option (List ℕ) → Option (List ℕ) → Option (List ℕ) → Option (List ℕ) → Type 0
 RunsAlone C U (alone.Once asked) status out out' err err' =
@@ -164,42 +164,35 @@ RunsAlone C U (alone.Combine asked) status out out' err err' =
 RunsAlone C U (alone.Split asked) status out out' err err' = (ending : Ending)
     × IsSplitEnding C U asked None None ending × Ends ending status out out' err err'
 
--- the run comes to an ending, and it is written
+-- the program's run comes to an ending, and it is written
 abbrev pub RunsBeside : (List ℕ → List ℕ → Type 0) → (List ℕ → Unread → Type 0) → Run → ℕ
     → Option (List ℕ) → Option (List ℕ) → Option (List ℕ) → Option (List ℕ) → Type 0
 RunsBeside C U run status out out' err err' =
     (ending : Ending) × IsRunEnding C U run ending × Ends ending status out out' err err'
 
--- the plan ended
-abbrev pub RunsPlan : (List ℕ → List ℕ → Type 0) → (List ℕ → Unread → Type 0) → Plan → ℕ
-    → Option (List ℕ) → Option (List ℕ) → Option (List ℕ) → Option (List ℕ) → Type 0
-RunsPlan C U (plan.Alone asked) status out out' err err' =
-    RunsAlone C U asked status out out' err err'
-RunsPlan C U (plan.Run run) status out out' err err' = RunsBeside C U run status out out' err err'
-
--- the words come to an ending, and it is written; the streams are standard output, then standard
--- error, before and after
+-- the program's words come to an ending, and it is written; the streams are standard output, then
+-- standard error, before and after
 pub record EndsWords (C : List ℕ → List ℕ → Type 0) (U : List ℕ → Unread → Type 0)
     (words : List (List ℕ)) (status : ℕ) (out out' err err' : Option (List ℕ)) : Type 0 where
   pub ending : Ending
   pub is_ending : IsEnding C U words ending
   pub ends : Ends ending status out out' err err'
 
--- the words are a stream, which is written as it goes
+-- the program's words are a stream, which is written as it goes
 pub record StreamsWords (C : List ℕ → List ℕ → Type 0) (U : List ℕ → Unread → Type 0)
     (words : List (List ℕ)) (status : ℕ) (out out' err err' : Option (List ℕ)) : Type 0 where
   pub lines : Follow
   pub planned : IsPlan words (plan.Alone (alone.Follow lines))
   pub ends : EndsStream C U lines status out out' err err'
 
--- the words are a stream whose events are numbered
+-- the program's words are a stream whose events are numbered
 pub record NumbersWords (C : List ℕ → List ℕ → Type 0) (U : List ℕ → Unread → Type 0)
     (words : List (List ℕ)) (status : ℕ) (out out' err err' : Option (List ℕ)) : Type 0 where
   pub lines : Number
   pub planned : IsPlan words (plan.Alone (alone.Number lines))
   pub ends : EndsNumbers C U lines status out out' err err'
 
--- the run ended as the words come to
+-- the program ended as the words of its command line come to
 abbrev pub RunsWords : (List ℕ → List ℕ → Type 0) → (List ℕ → Unread → Type 0)
     → List (List ℕ) → ℕ → Option (List ℕ) → Option (List ℕ) → Option (List ℕ) → Option (List ℕ)
     → Type 0
@@ -207,19 +200,19 @@ RunsWords C U words status out out' err err' = EndsWords C U words status out ou
     ⊎ (StreamsWords C U words status out out' err err'
     ⊎ NumbersWords C U words status out out' err err')
 
--- what is said where the words couldn't be had
+-- what the program says where its words couldn't be had
 abbrev pub IsUnheard : Ending → Type 0
 IsUnheard (ending.Faulty text) = text ≡ arguments_line
 IsUnheard ending.NoMemory = Unit {0}
 IsUnheard _ = ⊥
 
--- the run ended without words
+-- the program ended without words
 abbrev pub EndsUnheard : ℕ → Option (List ℕ) → Option (List ℕ)
     → Option (List ℕ) → Option (List ℕ) → Type 0
 EndsUnheard status out out' err err' =
     (ending : Ending) × IsUnheard ending × Ends ending status out out' err err'
 
--- the words are a plan, and the output grew by its answer
+-- the program's words are a plan, and standard output grew by its answer
 abbrev pub PrintsAnswer : (List ℕ → List ℕ → Type 0) → List (List ℕ)
     → Option (List ℕ) → Option (List ℕ) → Type 0
 PrintsAnswer C words out out' = (text : List ℕ) × AnswersWords C words text × Appends out out' text

@@ -22,21 +22,21 @@ use Rattle.site_commands.specs.declared.ending.Ending.TheVariants as ending
 abbrev pub part_name : List ℕ → ℕ → List ℕ
 part_name prefix i = prefix ++ decimal i ++ codes ".json"
 
--- the file of a part with these events: their batch, as one line
+-- the saved file of a part with these events: their batch, as one line
 abbrev pub file_of : List ℕ → ℕ → List EventValue → Bool → Output
 file_of prefix i events is_saved =
     record { name = part_name prefix i; bytes = batch_line events; is_saved = is_saved }
 
--- the file of part i of events
+-- the file to save for part i of the events
 abbrev pub part_file : Split → List EventValue → Bool → ℕ → Output
 part_file asked events is_saved i =
     file_of asked.prefix i (part (part_of asked.count) i events) is_saved
 
--- the files of the first n parts, all saved
+-- the files of the first n parts of the events, all saved
 abbrev pub part_files : Split → List EventValue → ℕ → List Output
 part_files asked events n = map (part_file asked events true) (range_with_len 0 n)
 
--- and behind them that of the next, which wasn't
+-- the files of the first parts that were saved, and behind them that of the next, which wasn't
 abbrev pub files_to : Split → List EventValue → ℕ → List Output
 files_to asked events n = part_files asked events n ++ part_file asked events false n ∷ []
 
@@ -48,7 +48,7 @@ part_counts asked events n =
 
 -- ---- what the files that are read come to
 
--- the files were read, and spell these events, in their order
+-- the files of a plan of parts were read, and spell these events, in their order
 abbrev pub SpellFiles : (List ℕ → List ℕ → Type 0) → Bool → List (List ℕ) → List EventValue
     → Type 0
 SpellFiles C has_lines files events = (contents : List (List ℕ))
@@ -58,7 +58,7 @@ SpellFiles C has_lines files events = (contents : List (List ℕ))
 abbrev pub part_count_lines : Split → List EventValue → List ℕ
 part_count_lines asked events = kind_lines (part_counts asked events asked.count)
 
--- the line that names the file of a part that wasn't saved
+-- the error line that names the file of a part that wasn't saved
 abbrev pub unsaved_line : Split → ℕ → List ℕ
 unsaved_line asked i = file_line (part_name asked.prefix i) (codes "cannot write")
 
@@ -67,7 +67,7 @@ abbrev pub AnswersSplit : (List ℕ → List ℕ → Type 0) → Split → List 
 AnswersSplit C asked text = (events : List EventValue)
     × SpellFiles C asked.has_lines asked.files events × (text ≡ part_count_lines asked events)
 
--- the files were read, and the line names a part's file
+-- the files were read, and the error line names a part's file that wasn't saved
 abbrev pub RefusesSplit : (List ℕ → List ℕ → Type 0) → Split → List ℕ → Type 0
 RefusesSplit C asked text = (events : List EventValue)
     × SpellFiles C asked.has_lines asked.files events

@@ -19,7 +19,7 @@ use Rattle.site_commands.specs.declared.stream.StreamEnd.TheVariants as end
 
 -- ---- what is written of the lines of a file
 
--- the text acknowledges every line, and none is at fault
+-- `follow` acknowledges every line of its file, and none is at fault
 pub record AnswersFollow (C : List ℕ → List ℕ → Type 0) (file text : List ℕ) : Type 0 where
   pub bytes : List ℕ
   pub of_file : C file bytes
@@ -29,21 +29,21 @@ pub record AnswersFollow (C : List ℕ → List ℕ → Type 0) (file text : Lis
   pub told : AreTold (Some bytes) left tells text
   pub faultless : faults_in tells ≡ 0
 
--- every line is acknowledged, and so many are at fault
+-- `follow` acknowledges every line of its file, and so many are at fault
 pub record FollowsAll (C : List ℕ → List ℕ → Type 0) (file : List ℕ) (out out' : Option (List ℕ))
     (faults : ℕ) : Type 0 where
   pub bytes : List ℕ
   pub of_file : C file bytes
   pub tells : TellsAll (Some bytes) out out' faults
 
--- some lines are acknowledged, from the first on
+-- `follow` acknowledges some lines of its file, from the first on
 pub record FollowsSome (C : List ℕ → List ℕ → Type 0) (file : List ℕ) (out out' : Option (List ℕ))
     : Type 0 where
   pub bytes : List ℕ
   pub of_file : C file bytes
   pub tells : TellsSome (Some bytes) out out'
 
--- so they are but for the rest of their acknowledgements, which couldn't be written
+-- `follow` acknowledges lines but for the rest of their acknowledgements, which couldn't be written
 pub record FollowsPart (C : List ℕ → List ℕ → Type 0) (file : List ℕ) (out out' : Option (List ℕ))
     : Type 0 where
   pub bytes : List ℕ
@@ -52,25 +52,25 @@ pub record FollowsPart (C : List ℕ → List ℕ → Type 0) (file : List ℕ) 
 
 -- ---- why a file isn't followed to its end, or not all of its lines are taken
 
--- an input that couldn't be read on, as a file that wasn't read
+-- a command's input that couldn't be read on, as a file that wasn't read
 abbrev pub unread_of : LineFault → UnreadAt
 unread_of line.OutOfMemory = record { file = 0; why = unread.OutOfMemory }
 unread_of line.CannotRead = record { file = 0; why = unread.CannotRead }
 
--- a stream that came to the end of its input, with so many lines at fault
+-- a command's stream that came to the end of its input, with so many lines at fault
 abbrev pub end_of_stream : ℕ → StreamEnd
 end_of_stream zero = end.Done
 end_of_stream (suc faults) = end.Refused (refusal.Lines (suc faults))
 
--- a stream that stopped before, for this fault
+-- a stream of `follow` that stopped before its end, for this fault
 abbrev pub end_at : StreamFault → StreamEnd
 end_at (stream.Input why) = end.Refused (refusal.Unread (unread_of why))
 end_at (stream.Database why) = end.Refused (refusal.Database why)
 end_at stream.Unwritten = end.Unwritten
 
--- the file wasn't read, and nothing was written; or, where it was, memory ran out or a read failed,
--- or the database is the cause, and the lines before are acknowledged; or so many of its lines are
--- at fault, as one that is too large, and every line is acknowledged
+-- why `follow` is refused: the file wasn't read, and nothing was written; or, if it was, memory ran
+-- out or a read failed, or the database is the cause, and the lines before are acknowledged; or so
+-- many of its lines are at fault, as one that is too large, and every line is acknowledged
 abbrev pub RefusesFollow : (List ℕ → List ℕ → Type 0) → (List ℕ → Unread → Type 0) → List ℕ
     → Refusal → Option (List ℕ) → Option (List ℕ) → Type 0
 RefusesFollow C U file (refusal.Unread at) out out' =
@@ -81,7 +81,7 @@ RefusesFollow C U file (refusal.Lines faults) out out' =
     (faults ≢ 0) × FollowsAll C file out out' faults
 RefusesFollow C U file _ out out' = ⊥
 
--- what is written where the stream ends so
+-- what `follow` writes where its stream ends so
 abbrev pub EndsSo : (List ℕ → List ℕ → Type 0) → (List ℕ → Unread → Type 0) → List ℕ → StreamEnd
     → Option (List ℕ) → Option (List ℕ) → Type 0
 EndsSo C U file end.Done out out' = FollowsAll C file out out' 0

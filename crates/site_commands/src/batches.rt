@@ -29,7 +29,7 @@ impl From<AllocError> for FeedFault {
     }
 }
 
-/// Moves values behind those of a list.
+/// Moves values, such as the contents of files, behind those of a list.
 pub fn append<T: Drop>(list: &mut List<T>, more: Vec<T>) -> Result<(), AllocError>
     ensures { OnOk result (list.new ≡ list.old ++ more.items) }
 {
@@ -39,7 +39,7 @@ pub fn append<T: Drop>(list: &mut List<T>, more: Vec<T>) -> Result<(), AllocErro
     Ok(())
 }
 
-/// Adds the events of a line of a file, behind so many others, unless it is blank.
+/// Adds the events of a line of a run's file, behind so many others, unless it is blank.
 fn add_line(
     alloc: Global,
     events: &mut Events,
@@ -71,7 +71,7 @@ fn add_line(
     }
 }
 
-/// The batch of the events of a file's lines.
+/// The batch of the events of a file's lines, for a feed of the program.
 fn batch_of(alloc: Global, file: u64, bytes: &[u8]) -> Result<Octets, FeedFault>
     ensures ok { IfOk result (IsBatchOf file bytes.now) }
     ensures err { IfErr result (IsLineFeedFault (lines_from file 0 (lines_of bytes.now))) }
@@ -89,8 +89,8 @@ fn batch_of(alloc: Global, file: u64, bytes: &[u8]) -> Result<Octets, FeedFault>
     Ok(Octets::from_vec(text.into_string().into_bytes()))
 }
 
-/// The batches of files, the first of which stands at this place. The bytes of a file are given back
-/// when its batch is made.
+/// The batches of a run's files, the first of which stands at this place. The bytes of a file are
+/// given back when its batch is made.
 fn batches_of(alloc: Global, contents: Vec<Octets>, first: u64) -> Result<List<Octets>, FeedFault>
     requires { first + length contents.items < 2 ^ 64 }
     ensures ok { IfOk result (AreBatches first contents.items) }
@@ -111,8 +111,8 @@ fn batches_of(alloc: Global, contents: Vec<Octets>, first: u64) -> Result<List<O
     Ok(batches)
 }
 
-/// What feeds read of the contents of files, the first of which stands at this place: each as it is,
-/// or the batch of its lines. Time and memory in proportion to them.
+/// What feeds of a run read of the contents of files, the first of which stands at this place: each
+/// as it is, or the batch of its lines. Time and memory in proportion to them.
 pub fn feeds_of(
     alloc: Global,
     contents: Vec<Octets>,

@@ -8,7 +8,7 @@ use crate::files::Looks;
 use crate::hint::hint_of;
 use crate::line::Refusal;
 use crate::names::Names;
-use crate::pieces::{Pieces, line_names, pieces_of};
+use crate::pieces::{Pieces, line_names, read_pieces};
 use crate::progress::Progress;
 use crate::refusal::refusal_line;
 use attributes::{Octets, Text};
@@ -32,7 +32,7 @@ struct Found {
     text: Text,
 }
 
-/// What a check comes to: what the database is, and the lines of the events at fault in the files.
+/// What the command `check` comes to: what the database is, and the lines of the files' faults.
 pub fn ending_of_check<S: Looks, D: Databases + Drop, P: Progress>(
     alloc: Global,
     shelf: &S,
@@ -59,8 +59,8 @@ pub fn ending_of_check<S: Looks, D: Databases + Drop, P: Progress>(
     }
 }
 
-/// What is found of the database and in all files. All files are read before one is judged, and the
-/// database is looked at behind that.
+/// What `check` finds of the database and in all files. All files are read before one is judged,
+/// and the database is looked at behind that.
 fn check<S: Shelf, D: Databases>(
     alloc: Global,
     shelf: &S,
@@ -74,7 +74,7 @@ fn check<S: Shelf, D: Databases>(
     ensures err { IfErr result
         (RefusesCheck (S.is_content shelf.now) (S.is_unread shelf.now) plan.now.files) }
 {
-    match pieces_of(alloc, shelf, plan.files.as_slice(), plan.has_lines) {
+    match read_pieces(alloc, shelf, plan.files.as_slice(), plan.has_lines) {
         Ok(pieces) => match found_of(alloc, databases, plan, &pieces) {
             Ok(found) => Ok(found),
             Err(_) => Err(Refusal::Unread(UnreadAt {
@@ -86,7 +86,7 @@ fn check<S: Shelf, D: Databases>(
     }
 }
 
-/// What is found of the database and in these pieces of the files.
+/// What `check` finds of the database and in these pieces of the files.
 fn found_of<D: Databases>(
     alloc: Global,
     databases: &D,
@@ -108,7 +108,7 @@ fn found_of<D: Databases>(
     found_in(alloc, databases, plan, files, texts)
 }
 
-/// What is found of the database and in these contents, each of the name at its place.
+/// What `check` finds of the database and in these contents, each of the name at its place.
 fn found_in<D: Databases>(
     alloc: Global,
     databases: &D,
@@ -131,7 +131,7 @@ fn found_in<D: Databases>(
     })
 }
 
-/// What is told of the database, where one is given.
+/// What `check` tells of the database, where one is given.
 fn told_if_given<D: Databases>(
     alloc: Global,
     databases: &D,
@@ -148,7 +148,7 @@ fn told_if_given<D: Databases>(
     }
 }
 
-/// What is told of the database of this name.
+/// What `check` tells of the database of this name.
 fn told_of<D: Databases>(alloc: Global, databases: &D, db: &str) -> Result<Told, AllocError>
     ensures { IfOk result (λ t. TellsDatabase db.now t.is_sound t.text) }
 {
@@ -170,7 +170,7 @@ fn told_of<D: Databases>(alloc: Global, databases: &D, db: &str) -> Result<Told,
     }
 }
 
-/// The lines of what is at fault in these contents, each of the file of that name.
+/// The lines of `check` on what is at fault in these contents, each of the file of that name.
 fn lines_of(
     alloc: Global,
     files: &[Text],
@@ -188,7 +188,7 @@ fn lines_of(
     Ok(Text::from_string(text))
 }
 
-/// The lines of what is at fault in this content: as sites take it, or as `number` does.
+/// What `check` tells of faults in this content: as sites take it, or as `number` does, in lines.
 fn lines_in(
     alloc: Global,
     file: &Text,

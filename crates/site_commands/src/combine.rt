@@ -45,8 +45,8 @@ struct Blamed {
     is_of_covers: bool,
 }
 
-/// What the answers of parts come to. All files are read before one is judged, those of the answers
-/// first; where the answers show each source of their parts, no covers are.
+/// What the answers of parts come to for the program. All files are read before one is judged,
+/// those of the answers first; where the answers show each source of their parts, no covers are.
 pub fn ending_of_combine<S: Looks, D: Databases + Drop, P: Progress>(
     alloc: Global,
     shelf: &S,
@@ -75,14 +75,14 @@ pub fn ending_of_combine<S: Looks, D: Databases + Drop, P: Progress>(
     }
 }
 
-/// The covers that stand beside the answers to the question, of those that are given.
+/// The covers in files that stand beside the answers to the question, of those that are given.
 fn covers_beside<'a>(query: Query, covers: &'a [Text]) -> &'a [Text]
     ensures { result.now ≡ covers_beside query covers.now }
 {
     if has_covers(query) { covers } else { &[] }
 }
 
-/// The ending where one of these files wasn't read.
+/// The ending of `combine` where one of these files wasn't read.
 fn ending_of_unread<S: Looks, D: Databases + Drop, P: Progress>(
     alloc: Global,
     shelf: &S,
@@ -102,7 +102,7 @@ fn ending_of_unread<S: Looks, D: Databases + Drop, P: Progress>(
     }
 }
 
-/// What the contents of these files come to.
+/// What the contents of these files come to in `combine`.
 fn ending_of_contents<P: Progress>(
     alloc: Global,
     progress: &P,
@@ -127,14 +127,14 @@ fn ending_of_contents<P: Progress>(
     }
 }
 
-/// The files that are to blame.
+/// The files that are to blame for the error line of `combine`.
 fn blamed_files<'a>(files: &'a [Text], cover_files: &'a [Text], is_of_covers: bool) -> &'a [Text]
     ensures { result.now ≡ (if is_of_covers then cover_files.now else files.now) }
 {
     if is_of_covers { cover_files } else { files }
 }
 
-/// The ending of a fault of these files.
+/// The ending of `combine` for a fault of these files.
 fn ending_of_fault<P: Progress>(
     alloc: Global,
     progress: &P,
@@ -150,7 +150,7 @@ fn ending_of_fault<P: Progress>(
     }
 }
 
-/// The answer of the whole from the contents of files, or why there is none.
+/// The answer of the whole from the contents of files of parts, or why there is none.
 fn combine_contents(
     alloc: Global,
     query: Query,
@@ -179,7 +179,7 @@ fn combine_contents(
     combine_texts(alloc, query, answers.as_slice(), covers.as_slice())
 }
 
-/// A fault of the answers.
+/// A fault of the answers of parts in files.
 fn of_answers(fault: CombineFault) -> Blamed
     ensures fault { result.fault ≡ fault }
     ensures answers { result.is_of_covers ≡ false }
@@ -190,7 +190,7 @@ fn of_answers(fault: CombineFault) -> Blamed
     }
 }
 
-/// The contents as texts.
+/// The contents of files of parts' answers as texts.
 fn texts_in<'a>(alloc: Global, contents: &'a [Octets]) -> Result<Vec<&'a str>, TextFault>
     ensures ok { IfOk result (λ texts. map (λ t. t.now) texts.items ≡ contents.now) }
     ensures err { IfErr result (λ f. (i : ℕ) → f ≡ text.NoText i → IsNoText contents.now i) }
@@ -205,7 +205,7 @@ fn texts_in<'a>(alloc: Global, contents: &'a [Octets]) -> Result<Vec<&'a str>, T
     Ok(texts)
 }
 
-/// The answer of the whole from texts, or why there is none.
+/// The answer of the whole from texts in files of parts, or why there is none.
 fn combine_texts(
     alloc: Global,
     query: Query,
@@ -231,7 +231,7 @@ fn combine_texts(
     }
 }
 
-/// Whether a fault is of the covers, and not of the answers.
+/// Whether a fault is of the files of covers, and not of those of the answers.
 fn is_of_covers(
     alloc: Global,
     query: Query,
@@ -247,8 +247,8 @@ fn is_of_covers(
     }
 }
 
-/// Whether a source that stands in two parts is seen in the covers. Events that lines tell have
-/// sources too.
+/// Whether a source that stands in two parts is seen in the files of covers. Events that lines tell
+/// have sources too.
 fn is_overlap_of_covers(alloc: Global, query: Query, covers: &[&str]) -> Result<bool, AllocError>
     ensures { IfOk result (IsOverlapOf query (map (λ t. t.now) covers.now)) }
 {
@@ -262,7 +262,7 @@ fn is_overlap_of_covers(alloc: Global, query: Query, covers: &[&str]) -> Result<
     }
 }
 
-/// The line of a fault of these files.
+/// The error line of a fault of these files of parts.
 fn combine_line(alloc: Global, files: &[Text], fault: CombineFault) -> Result<Text, AllocError>
     ensures { IfOk result (λ line. line ≡ combine_line files.now fault) }
 {
@@ -287,7 +287,7 @@ fn combine_line(alloc: Global, files: &[Text], fault: CombineFault) -> Result<Te
     }
 }
 
-/// `site: M covers beside N answers: CoverCount`
+/// The error line `site: M covers beside N answers: CoverCount`.
 fn count_line(alloc: Global, answers: u64, covers: u64) -> Result<Text, AllocError>
     ensures { IfOk result (λ line. line ≡ count_line answers covers) }
 {
@@ -295,7 +295,7 @@ fn count_line(alloc: Global, answers: u64, covers: u64) -> Result<Text, AllocErr
     Ok(Text::from_string(line))
 }
 
-/// `site: FILE: Overlap with FILE: SOURCE`
+/// The error line `site: FILE: Overlap with FILE: SOURCE`.
 fn overlap_line(alloc: Global, name: &str, other: &str, source: &str) -> Result<Text, AllocError>
     ensures { IfOk result (λ line. line ≡ overlap_line name.now other.now source.now) }
 {
@@ -310,7 +310,7 @@ fn overlap_line(alloc: Global, name: &str, other: &str, source: &str) -> Result<
     Ok(Text::from_string(line))
 }
 
-/// What can be done about a fault; none where nobody looks on.
+/// The hint of what can be done about a fault of parts' files; none where nobody looks on.
 fn fault_hint<P: Progress>(progress: &P, fault: &CombineFault) -> Option<Hint> {
     if !progress.is_watched() {
         return None;

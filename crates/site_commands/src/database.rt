@@ -9,7 +9,7 @@ ghost use Rattle.site_commands.specs.Printed.{printed};
 ghost use Rattle.outbox.specs.Shown.{IsSource};
 
 use crate::line::Refusal;
-use crate::pieces::{Pieces, pieces_of, refusal_at};
+use crate::pieces::{Pieces, read_pieces, refusal_at};
 use crate::printed::Printed;
 use attributes::Text;
 use command_words::{Action, Pages, Request};
@@ -38,7 +38,7 @@ pub fn take<S: Shelf, F: EventReader, D: Databases, W: Watch>(
     ensures err { IfErr result
         (RefusesTake (S.is_content shelf.now) (S.is_unread shelf.now) has_lines files.now) }
 {
-    match pieces_of(alloc, shelf, files, has_lines) {
+    match read_pieces(alloc, shelf, files, has_lines) {
         Ok(Pieces { texts, places }) => match events_of(alloc, reader, texts.as_slice()) {
             Ok(events) => {
                 let answer = databases.take(alloc, db, &events, watch);
@@ -173,7 +173,7 @@ pub fn summary<D: Databases>(alloc: Global, databases: &D, db: &str) -> Result<T
     }
 }
 
-/// The status that an order gets by what is done with it.
+/// The status that an order gets by what the command line has done with it.
 fn status_of(action: Action) -> Status
     ensures { result ≡ status_by_action action }
 {

@@ -1,4 +1,4 @@
-//! How a run ends, as a value, and the one place that writes it.
+//! How a run of the program ends, as a value, and what writes it.
 ghost use Rattle.std.specs.Prelude.{◌≡◌, List, ℕ, IfSome, IsNone};
 ghost use Rattle.std.specs.Io.KnownBytes.{Appends};
 ghost use Rattle.line_intake.specs.Written.{Wrote};
@@ -64,8 +64,8 @@ pub struct Shown {
     _private: (),
 }
 
-/// Writes the ending to the one stream that it is for, and answers the status; what was made is
-/// told first. A write that fails ends with 1, and nothing more is written.
+/// Writes the ending to the stream that it is for, and answers the status; what was made is told
+/// first, on standard error. A write that fails ends with 1, and nothing more is written.
 pub fn finish<O: Write, E: Write, P: Progress>(
     ending: Ending,
     out: &mut O,
@@ -97,7 +97,7 @@ pub fn finish<O: Write, E: Write, P: Progress>(
     }
 }
 
-/// Writes the pages that are left, each as it is made.
+/// Writes to standard output the pages that are left, each as it is made.
 fn print_pages<O: Write, E: Write>(out: &mut O, err: &mut E, left: &mut EventPages) -> u8
     ensures { EndsPages left.old result (O.contents out.old) (O.contents out.new)
         (E.contents err.old) (E.contents err.new) }
@@ -116,7 +116,7 @@ fn print_pages<O: Write, E: Write>(out: &mut O, err: &mut E, left: &mut EventPag
     DONE
 }
 
-/// Writes a text. The answer is the status, or that of a refusal where the writing fails.
+/// Writes a text to a stream. The answer is the exit status, or a refusal's if the writing fails.
 fn print<W: Write>(to: &mut W, text: &str, status: u8) -> u8
     ensures { Writes result status (W.contents to.old) (W.contents to.new) text.now }
 {
@@ -126,14 +126,14 @@ fn print<W: Write>(to: &mut W, text: &str, status: u8) -> u8
     }
 }
 
-/// Writes what was made, as far as it can be written.
+/// Writes to standard error what was made, as far as it can be written.
 fn tell<E: Write>(err: &mut E, made: &str)
     ensures { GrowsBy (E.contents err.old) (E.contents err.new) made.now }
 {
     let _told = put(err, made.as_bytes());
 }
 
-/// Writes the line of a refusal, and behind it gives the hint, where there is one.
+/// Writes the error line of a refusal, and behind it gives the hint, where there is one.
 fn refuse<E: Write, P: Progress>(err: &mut E, line: &str, hint: Option<Hint>, progress: &P) -> u8
     ensures { Writes result 1 (E.contents err.old) (E.contents err.new) line.now }
 {
@@ -145,7 +145,7 @@ fn refuse<E: Write, P: Progress>(err: &mut E, line: &str, hint: Option<Hint>, pr
     REFUSED
 }
 
-/// Writes a line; none is shown where it couldn't be written whole.
+/// Writes an error line; none is shown where it couldn't be written whole.
 fn show<E: Write>(err: &mut E, line: &str) -> Option<Shown>
     ensures some { IfSome result
         (λ _. Appends (E.contents err.old) (E.contents err.new) line.now) }
@@ -158,8 +158,8 @@ fn show<E: Write>(err: &mut E, line: &str) -> Option<Shown>
     }
 }
 
-/// The ending of a refusal of a plan that names these: its line, where memory is left for it, and
-/// the hint behind it.
+/// The ending of a refusal of a program's plan that names these: its error line, where memory is
+/// left for it, and the hint behind it.
 pub fn refused(alloc: Global, names: Names<'_>, refusal: Refusal, hint: Option<Hint>) -> Ending
     ensures { IsLine (lent names.entry) refusal result }
 {
@@ -169,8 +169,8 @@ pub fn refused(alloc: Global, names: Names<'_>, refusal: Refusal, hint: Option<H
     }
 }
 
-/// The ending of an answer, for which the file of that database was made, or a service in it, or
-/// neither.
+/// The ending of a plan's answer, for which the file of that database was made, or a service in it,
+/// or neither.
 pub fn answered(
     alloc: Global,
     db: &str,
@@ -189,8 +189,8 @@ pub fn answered(
     }
 }
 
-/// Writes the line of a refusal of a plan that names these, or, where memory is wanted for it, the
-/// line that says so; behind the line it gives the hint.
+/// Writes the error line of a refusal of a plan that names these, or, where memory is wanted for
+/// it, the line that says so; behind the line it gives the hint.
 pub fn say<E: Write, P: Progress>(
     alloc: Global,
     names: Names<'_>,

@@ -18,7 +18,7 @@ pub trait Streams: Shelf {
     /// A file that was opened.
     type Input: Read + Drop;
 
-    /// Opens the file of that name, to be read from its beginning.
+    /// Opens the program's file of that name, to be read from its beginning.
     fn open(&self, name: &str) -> Result<Self::Input, Unread>
         ensures input { IfOk result (λ input. (bytes : List ℕ)
             → MayGive (Self.Input.remaining input) bytes
@@ -28,7 +28,7 @@ pub trait Streams: Shelf {
 
 /// A shelf on which one may look what a file seems to be.
 pub trait Looks: Shelf {
-    /// What the file of that name seems to be.
+    /// What the program's file of that name seems to be, for a hint.
     fn look(&self, name: &str) -> Look;
 }
 
@@ -44,7 +44,7 @@ pub struct SystemFiles<'a, R, P> {
 }
 
 impl<'a, R, P> SystemFiles<'a, R, P> {
-    /// The files, of which so many are left to read.
+    /// The program's files on the operating system, of which so many are left to read.
     pub fn new(rt: &'a R, progress: &'a P, left: u64) -> SystemFiles<'a, R, P> {
         SystemFiles {
             rt,
@@ -67,23 +67,17 @@ impl<'a, R: AllocGlobal + Files, P: Progress> Shelf for SystemFiles<'a, R, P> {
             self.left.set(left - 1);
         }
         match File::open(self.rt, path_of(name)) {
-            Ok(mut file) => self.seen(name, read_all(alloc, &mut file)),
+            Ok(mut file) => {
+                let read = read_all(alloc, &mut file);
+                if name == "-" {
+                    if let Ok(bytes) = &read {
+                        self.input.set(look_of(bytes.as_bytes()));
+                    }
+                }
+                read
+            }
             Err(_) => Err(Unread::CannotRead),
         }
-    }
-}
-
-impl<'a, R, P> SystemFiles<'a, R, P> {
-    /// What was read, of which it is kept what it seems to be where it was standard input.
-    fn seen(&self, name: &str, read: Result<Octets, Unread>) -> Result<Octets, Unread>
-        ensures { result ≡ read }
-    {
-        if name == "-" {
-            if let Ok(bytes) = &read {
-                self.input.set(look_of(bytes.as_bytes()));
-            }
-        }
-        read
     }
 }
 
@@ -104,7 +98,7 @@ impl<'a, R: AllocGlobal + Files, P: Progress> Looks for SystemFiles<'a, R, P> {
     }
 }
 
-/// What a file seems to be that can be read.
+/// What a file of the program seems to be that can be read, for a hint.
 fn look_into<F: Read>(file: &mut F) -> Look {
     let mut bytes = [0; LOOKED];
     match file.read(&mut bytes) {
@@ -113,7 +107,7 @@ fn look_into<F: Read>(file: &mut F) -> Look {
     }
 }
 
-/// What a file is that isn't opened.
+/// What a file of the program is that isn't opened, for a hint.
 fn look_of_error(kind: ErrorKind) -> Look {
     match kind {
         ErrorKind::NotFound => Look::Missing,
@@ -156,7 +150,7 @@ impl<'a, F: Read, P: Progress> Read for WatchedInput<'a, F, P> {
     }
 }
 
-/// The path of a file: `-` is standard input.
+/// The operating system's path of the program's file: `-` is standard input.
 fn path_of(name: &str) -> &str {
     if name == "-" { "/dev/stdin" } else { name }
 }

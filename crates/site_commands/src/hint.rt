@@ -22,7 +22,7 @@ pub enum Hint {
 }
 
 impl Hint {
-    /// The words, lent.
+    /// The words of a hint behind an error line, lent.
     pub fn as_str(&self) -> &str {
         match self {
             Hint::Words(words) => words,
@@ -31,9 +31,9 @@ impl Hint {
     }
 }
 
-/// What is the matter behind a refusal of a plan that names these, and what can be done. None where
-/// nobody looks on, or nothing more is known. It may read the file or the database once more, and
-/// waits for none.
+/// The hint on what is the matter behind a refusal of a plan that names these, and what can be
+/// done. None where nobody looks on, or nothing more is known. It may read the file or the database
+/// once more, and waits for none.
 pub fn hint_of<S: Looks, D: Databases + Drop, P: Progress>(
     alloc: Global,
     shelf: &S,
@@ -69,7 +69,7 @@ pub fn hint_of<S: Looks, D: Databases + Drop, P: Progress>(
     }
 }
 
-/// The words that every refusal of its kind has.
+/// The words of a hint that every refusal of its kind has.
 fn words_of<S: Looks, D: Databases + Drop>(
     alloc: Global,
     shelf: &S,
@@ -89,7 +89,7 @@ fn words_of<S: Looks, D: Databases + Drop>(
     }
 }
 
-/// What is the matter with a file of which lines were refused.
+/// The hint on what is the matter with a file of which lines were refused.
 fn of_lines<S: Looks>(shelf: &S, name: &str) -> &'static str {
     match shelf.look(name) {
         Look::Pretty => {
@@ -99,7 +99,7 @@ fn of_lines<S: Looks>(shelf: &S, name: &str) -> &'static str {
     }
 }
 
-/// Why a file wasn't read.
+/// The hint on why a file wasn't read.
 fn of_unread<S: Looks>(shelf: &S, name: &str, why: Unread) -> Option<&'static str> {
     match why {
         Unread::OutOfMemory => None,
@@ -115,7 +115,7 @@ fn of_unread<S: Looks>(shelf: &S, name: &str, why: Unread) -> Option<&'static st
     }
 }
 
-/// Why a file spells no events.
+/// The hint on why a file spells no events.
 fn of_file<S: Looks>(shelf: &S, name: &str, fault: ReportFault) -> Option<&'static str> {
     match fault {
         ReportFault::OutOfMemory | ReportFault::Read(ReadFault::OutOfMemory) => None,
@@ -133,7 +133,7 @@ fn of_file<S: Looks>(shelf: &S, name: &str, fault: ReportFault) -> Option<&'stat
     }
 }
 
-/// Why a line spells no events.
+/// The hint on why a line spells no events.
 fn of_line<S: Looks>(shelf: &S, name: &str, fault: ReportFault) -> Option<&'static str> {
     match fault {
         ReportFault::OutOfMemory | ReportFault::Read(ReadFault::OutOfMemory) => None,
@@ -152,7 +152,7 @@ fn of_line<S: Looks>(shelf: &S, name: &str, fault: ReportFault) -> Option<&'stat
     }
 }
 
-/// What a file is that is no JSON.
+/// The hint on what a file is that is no JSON.
 fn of_look(look: Look) -> &'static str {
     match look {
         Look::Empty => "it is empty: did what should have written it end well?",
@@ -166,7 +166,7 @@ fn of_look(look: Look) -> &'static str {
     }
 }
 
-/// Why a file spells no summary.
+/// The hint on why a file spells no summary.
 fn of_summary<S: Looks>(shelf: &S, name: &str, why: SummaryFault) -> Option<&'static str> {
     match why {
         SummaryFault::OutOfMemory => None,
@@ -184,7 +184,7 @@ fn of_summary<S: Looks>(shelf: &S, name: &str, why: SummaryFault) -> Option<&'st
     }
 }
 
-/// Why a database has no answer.
+/// The hint on why a database has no answer.
 fn of_database<D: Databases + Drop>(
     alloc: Global,
     databases: &D,
@@ -215,7 +215,7 @@ fn of_database<D: Databases + Drop>(
     }
 }
 
-/// What is the matter with a database whose tables, or whose service, aren't those that were meant.
+/// The hint on a database whose tables, or whose service, aren't those that were meant.
 fn of_service<D: Databases + Drop>(
     alloc: Global,
     databases: &D,

@@ -36,7 +36,7 @@ pub enum Refusal {
     NoNumber,
 }
 
-/// The line of a refusal of a plan that names these.
+/// The error line of a refusal of a plan that names these.
 pub fn line_of(alloc: Global, names: Names<'_>, refusal: Refusal) -> Result<Text, AllocError>
     ensures { IfOk result (λ text. text ≡ line_of (lent names.entry) refusal) }
 {
@@ -55,7 +55,7 @@ pub fn line_of(alloc: Global, names: Names<'_>, refusal: Refusal) -> Result<Text
     }
 }
 
-/// `FILE line N`
+/// `FILE line N`, which names a line of a file in an error line of the program.
 pub fn line_name(alloc: Global, name: &str, number: u64) -> Result<Text, AllocError>
     ensures { IfOk result (λ text. text ≡ line_name name.now number) }
 {
@@ -63,7 +63,7 @@ pub fn line_name(alloc: Global, name: &str, number: u64) -> Result<Text, AllocEr
     Ok(Text::from_string(name))
 }
 
-/// The lines of what was made: the file of that database, a service in it.
+/// The program's lines of what was made: the file of that database, a service in it.
 pub fn made_lines(
     alloc: Global,
     db: &str,
@@ -85,7 +85,7 @@ pub fn made_lines(
     Ok(Text::from_string(lines))
 }
 
-/// `site: FILE: WORDS`, ended with LF, where that is so, and else nothing.
+/// The error line `site: FILE: WORDS`, ended with LF, where that is so, and else nothing.
 fn line_if(alloc: Global, is_so: bool, name: &str, words: &str) -> Result<Text, AllocError>
     ensures { IfOk result (λ text.
         text ≡ (if is_so then file_line name.now words.now else [])) }
@@ -96,7 +96,7 @@ fn line_if(alloc: Global, is_so: bool, name: &str, words: &str) -> Result<Text, 
     Text::of(alloc, "")
 }
 
-/// The line of a file that was not read.
+/// The program's error line of a file that was not read.
 fn unread_line(alloc: Global, name: &str, why: Unread) -> Result<Text, AllocError>
     ensures { IfOk result (λ text. text ≡ unread_line name.now why) }
 {
@@ -107,7 +107,7 @@ fn unread_line(alloc: Global, name: &str, why: Unread) -> Result<Text, AllocErro
     }
 }
 
-/// The line of a file at fault.
+/// The program's error line of a file at fault.
 fn fault_line(alloc: Global, name: &str, fault: ReportFault) -> Result<Text, AllocError>
     ensures { IfOk result (λ text. text ≡ file_fault_line name.now fault) }
 {
@@ -122,7 +122,7 @@ fn fault_line(alloc: Global, name: &str, fault: ReportFault) -> Result<Text, All
     }
 }
 
-/// The line of a file with the words of its fault.
+/// The program's error line of a file with the words of its fault.
 fn words_line(alloc: Global, name: &str, fault: ReportFault) -> Result<Text, AllocError>
     ensures { IfOk result (λ text. text ≡ file_line name.now (words_of fault)) }
 {
@@ -130,7 +130,7 @@ fn words_line(alloc: Global, name: &str, fault: ReportFault) -> Result<Text, All
     file_line(alloc, name, words.as_str())
 }
 
-/// `site: N lines refused`
+/// The error line `site: N lines refused`.
 fn lines_line(alloc: Global, faults: u64) -> Result<Text, AllocError>
     ensures { IfOk result (λ text. text ≡ lines_line faults) }
 {
@@ -138,7 +138,7 @@ fn lines_line(alloc: Global, faults: u64) -> Result<Text, AllocError>
     Ok(Text::from_string(line))
 }
 
-/// The line of a summary at fault.
+/// The program's error line of a summary at fault.
 fn summary_line(alloc: Global, name: &str, why: SummaryFault) -> Result<Text, AllocError>
     ensures { IfOk result (λ text. text ≡ summary_fault_line name.now why) }
 {
@@ -193,7 +193,7 @@ fn order_line(alloc: Global, number: u64, name: &str) -> Result<Text, AllocError
     Ok(Text::from_string(line))
 }
 
-/// `site: FILE: WORDS`, ended with LF.
+/// The error line `site: FILE: WORDS`, ended with LF.
 pub fn file_line(alloc: Global, name: &str, words: &str) -> Result<Text, AllocError>
     ensures { IfOk result (λ text. text ≡ file_line name.now words.now) }
 {
@@ -206,7 +206,7 @@ pub fn file_line(alloc: Global, name: &str, words: &str) -> Result<Text, AllocEr
     Ok(Text::from_string(line))
 }
 
-/// Appends a name, its control characters as in a JSON string.
+/// Appends a file's name to an error line, its control characters as in a JSON string.
 pub fn push_name(line: &mut String, name: &str) -> Result<(), AllocError>
     ensures { OnOk result (string_bytes line.new
         ≡ string_bytes line.old ++ printed_name name.now) }
@@ -217,7 +217,7 @@ pub fn push_name(line: &mut String, name: &str) -> Result<(), AllocError>
     Ok(())
 }
 
-/// Appends a character of a name.
+/// Appends a character of a file's name to an error line.
 fn push_char(line: &mut String, c: char) -> Result<(), AllocError>
     ensures { OnOk result (string_bytes line.new ≡ string_bytes line.old ++ name_char c) }
 {
@@ -231,7 +231,7 @@ fn push_char(line: &mut String, c: char) -> Result<(), AllocError>
     }
 }
 
-/// Appends a character that has no short escape.
+/// Appends a character of a name in an error line that has no short escape.
 fn push_other(line: &mut String, c: char) -> Result<(), AllocError>
     ensures { OnOk result (string_bytes line.new ≡ string_bytes line.old ++ other_char c) }
 {
@@ -244,7 +244,7 @@ fn push_other(line: &mut String, c: char) -> Result<(), AllocError>
     line.push(c)
 }
 
-/// Appends a hexadecimal digit, a letter in lower case.
+/// Appends a hexadecimal digit to an error line, a letter in lower case.
 fn push_hex(line: &mut String, digit: u32) -> Result<(), AllocError>
     requires { digit < 16 }
     ensures { OnOk result (string_bytes line.new

@@ -32,7 +32,7 @@ pub enum Look {
     Other,
 }
 
-/// What a file seems to be that begins with these bytes.
+/// What a file seems to be that begins with these bytes, for a hint.
 pub fn look_of(bytes: &[u8]) -> Look {
     if bytes.starts_with(b"\xef\xbb\xbf") {
         return Look::Marked;
@@ -49,7 +49,7 @@ pub fn look_of(bytes: &[u8]) -> Look {
     look_of_text(bytes)
 }
 
-/// What a text seems to be.
+/// What a file's text seems to be, for a hint.
 fn look_of_text(bytes: &[u8]) -> Look {
     if bytes.iter().all(|b| b.is_ascii_whitespace()) {
         return Look::Empty;
@@ -60,7 +60,7 @@ fn look_of_text(bytes: &[u8]) -> Look {
     look_of_lines(bytes)
 }
 
-/// What a text seems to be by its first line and what stands behind it.
+/// What a file seems to be by its first line and what stands behind it, for a hint.
 fn look_of_lines(bytes: &[u8]) -> Look {
     let Some(end) = bytes.iter().position(|b| *b == b'\n') else {
         return Look::Other;
@@ -76,7 +76,7 @@ fn look_of_lines(bytes: &[u8]) -> Look {
     Look::Other
 }
 
-/// Whether a text begins and ends as an object or an array does.
+/// Whether a file's text begins and ends as an object or an array does, for a hint.
 fn is_whole(text: &[u8]) -> bool {
     text.starts_with(b"{") && text.ends_with(b"}") || text.starts_with(b"[") && text.ends_with(b"]")
 }

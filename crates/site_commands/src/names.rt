@@ -19,7 +19,7 @@ pub struct Names<'a> {
 }
 
 impl<'a> Names<'a> {
-    /// A database alone.
+    /// What an error line names of a plan: a database alone.
     fn of_db(db: &'a str) -> Names<'a>
         ensures { lent result ≡ record { db = db.now; order = 0; files = [] } }
     {
@@ -31,7 +31,7 @@ impl<'a> Names<'a> {
         }
     }
 
-    /// Files alone.
+    /// What an error line names of a plan: files alone.
     pub fn of_files(files: &'a [Text]) -> Names<'a>
         ensures { lent result ≡ record { db = []; order = 0; files = files.now } }
     {
@@ -43,7 +43,7 @@ impl<'a> Names<'a> {
         }
     }
 
-    /// What a plan with one answer names.
+    /// What the error line of a plan with one answer names.
     pub fn of_once(plan: &'a Once) -> Names<'a>
         ensures { lent result ≡ of_once plan.now }
     {
@@ -81,7 +81,7 @@ impl<'a> Names<'a> {
         }
     }
 
-    /// What a stream names.
+    /// What the error line of the command `follow` names.
     pub fn of_follow(plan: &'a Follow) -> Names<'a>
         ensures { lent result ≡ names_of_follow plan.now }
     {
@@ -93,7 +93,7 @@ impl<'a> Names<'a> {
         }
     }
 
-    /// What a stream of lines that are numbered names.
+    /// What the error line of a stream of lines that are numbered names.
     pub fn of_number(plan: &'a Number) -> Names<'a>
         ensures { lent result ≡ of_number plan.now }
     {
@@ -105,7 +105,7 @@ impl<'a> Names<'a> {
         }
     }
 
-    /// What a check names.
+    /// What the error line of the command `check` names.
     pub fn of_check(plan: &'a Check) -> Names<'a>
         ensures { lent result ≡ of_check plan.now }
     {
@@ -117,14 +117,14 @@ impl<'a> Names<'a> {
         }
     }
 
-    /// What a plan of parts names where it is refused for a file that it reads.
+    /// What the error line of a plan of parts names, refused for a file that it reads.
     pub fn of_split(plan: &'a Split) -> Names<'a>
         ensures { lent result ≡ of_split plan.now }
     {
         Names::of_files(plan.files.as_slice())
     }
 
-    /// What a run names, its peer's file first.
+    /// What the error line of a run names, its peer's file first.
     pub fn of_run(plan: &'a Run) -> Names<'a>
         ensures { lent result ≡ of_run plan.now }
     {
@@ -144,7 +144,7 @@ impl<'a> Names<'a> {
         }
     }
 
-    /// The file at a place, from 0; empty where there is none.
+    /// An error line's file at a place, from 0; empty where there is none.
     pub fn file(self, place: u64) -> &'a str
         ensures { result.now ≡ name_at (lent self.entry).files place }
     {
@@ -156,7 +156,7 @@ impl<'a> Names<'a> {
     }
 }
 
-/// The name that is given; empty where none is.
+/// The name that a plan gives for an error line; empty where none is given.
 fn given_name(name: &Option<Text>) -> &str
     ensures { result.now ≡ unwrap_or name.now [] }
 {
@@ -166,7 +166,7 @@ fn given_name(name: &Option<Text>) -> &str
     }
 }
 
-/// The name at a place, from 0; empty where there is none.
+/// The name for an error line at a place, from 0; empty where there is none.
 pub(crate) fn name_at(names: &[Text], place: u64) -> &str
     ensures { result.now ≡ name_at names.now place }
 {

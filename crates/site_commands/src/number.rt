@@ -68,7 +68,7 @@ fn numbered<S: Streams, D: Numberers, O: Write, E: Write>(
     }
 }
 
-/// How a stream ended for the command: lines at fault are a refusal.
+/// How a stream ended for the command `number`: lines at fault are a refusal.
 fn end(ended: Result<u64, NumberEnd>) -> StreamEnd
     ensures { result ≡ number_end ended }
 {
@@ -85,7 +85,7 @@ fn end(ended: Result<u64, NumberEnd>) -> StreamEnd
     }
 }
 
-/// The refusal of a numberer. Events that can't be numbered are refused before it is asked.
+/// A numberer's refusal for `number`. Events that can't be numbered are refused before it is asked.
 fn refusal_of(why: NumbererFault) -> Refusal
     ensures { result ≡ refusal_of why }
 {

@@ -24,8 +24,8 @@ pub trait Outputs {
     /// The files that were asked to be saved so far, in order, where they are known.
     ghost outputs: { Self → Option (List Output) } = { λ _. None };
 
-    /// Saves a file of that name with these bytes, in place of what has the name. Where it can't,
-    /// what has the name stays as it is.
+    /// Saves an output file of that name with these bytes, in place of what has the name. Where it
+    /// can't, what has the name stays as it is.
     fn save(&mut self, alloc: Global, name: &str, bytes: &[u8]) -> Result<(), Unsaved>
         ensures ok { IfOk result (λ _. GrewBy (outputs self.old) (outputs self.new)
             (record { name = name.now; bytes = bytes.now; is_saved = true } ∷ [])) }
@@ -41,7 +41,7 @@ pub struct SystemOutputs<'a, R> {
 }
 
 impl<'a, R> SystemOutputs<'a, R> {
-    /// The files of this runtime.
+    /// The output files of this runtime, which the program saves.
     pub fn new(rt: &'a R) -> SystemOutputs<'a, R> {
         SystemOutputs { rt }
     }
@@ -59,13 +59,13 @@ impl<'a, R: Files> Outputs for SystemOutputs<'a, R> {
     }
 }
 
-/// The name of a file while it is written.
+/// The name of a file that the program saves while it is written.
 fn name_beside(alloc: Global, name: &str) -> Result<String, AllocError> {
     format!(in alloc; "{name}.new")
 }
 
-/// Writes a file under the name beside, and gives it its own. Where that fails nothing stays
-/// beside.
+/// Writes a file that the program saves under the name beside, and gives it its own. Where that
+/// fails nothing stays beside.
 fn write_over<R: Files>(rt: &R, name: &str, beside: &str, bytes: &[u8]) -> io::Result<()> {
     let file = File::create(rt, beside)?;
     match write_whole(file, bytes) {
@@ -77,13 +77,13 @@ fn write_over<R: Files>(rt: &R, name: &str, beside: &str, bytes: &[u8]) -> io::R
     }
 }
 
-/// Writes the bytes, and waits until the disk has them.
+/// Writes the bytes of a file that is saved, and waits until the disk has them.
 fn write_whole<F: Write + OpenFile + Drop>(mut file: F, bytes: &[u8]) -> io::Result<()> {
     file.write_all(bytes)?;
     file.sync_all()
 }
 
-/// Takes away what was begun, as far as that can be done.
+/// Takes away what was begun of a file to be saved, as far as that can be done.
 fn give_up<R: Files>(rt: &R, beside: &str, error: io::Error) -> io::Result<()> {
     let _gone = fs::remove_file(rt, beside);
     Err(error)

@@ -10,7 +10,7 @@ ghost use Rattle.site_commands.specs.Parts.{AnswersPart, SaysSources, placed};
 ghost use Rattle.site_commands.specs.Splits.{SpellFiles};
 
 use crate::line::Refusal;
-use crate::pieces::{Pieces, memory_refusal, pieces_of, refusal_at};
+use crate::pieces::{Pieces, memory_refusal, read_pieces, refusal_at};
 use attributes::{Batch, Text};
 use coverage::Summary;
 use event_files::{EventReader, Shelf, events_of};
@@ -62,7 +62,7 @@ fn parts_of_sources<S: Shelf, F: EventReader>(
         (AnswersPart (S.is_content shelf.now) count None has_lines files.now) }
     ensures err { IfErr result (RefusesFiles (S.is_content shelf.now) (S.is_unread shelf.now) has_lines files.now) }
 {
-    match pieces_of(alloc, shelf, files, has_lines) {
+    match read_pieces(alloc, shelf, files, has_lines) {
         Ok(Pieces { texts, places }) => match site_of(alloc, reader, texts) {
             Ok(events) => match source_lines(alloc, &events, count) {
                 Ok(text) => {
@@ -77,7 +77,7 @@ fn parts_of_sources<S: Shelf, F: EventReader>(
     }
 }
 
-/// The events of the files whose sources fall to the part at a place, as a batch.
+/// The events of the files whose sources fall to the part at a place, as a batch to print.
 fn events_of_part<S: Shelf, F: EventReader>(
     alloc: Global,
     shelf: &S,
@@ -115,7 +115,7 @@ pub(crate) fn events_of_files<S: Shelf, F: EventReader>(
     ensures ok { IfOk result (SpellFiles (S.is_content shelf.now) has_lines files.now) }
     ensures err { IfErr result (RefusesFiles (S.is_content shelf.now) (S.is_unread shelf.now) has_lines files.now) }
 {
-    match pieces_of(alloc, shelf, files, has_lines) {
+    match read_pieces(alloc, shelf, files, has_lines) {
         Ok(Pieces { texts, places }) => match events_of(alloc, reader, texts.as_slice()) {
             Ok(events) => Ok(events),
             Err(refused) => Err(refusal_at(has_lines, places.as_slice(), refused)),
@@ -134,7 +134,7 @@ fn part_line(alloc: Global, events: Batch, count: u64, place: u64) -> Result<Tex
     batch_line(alloc, &batches[place as usize])
 }
 
-/// A batch as a line.
+/// A batch of the events of the program's files as a line.
 pub(crate) fn batch_line(alloc: Global, events: &Batch) -> Result<Text, AllocError>
     ensures { IfOk result (λ text. text ≡ batch_line events.now) }
 {
@@ -154,7 +154,7 @@ fn source_lines(alloc: Global, events: &Site, count: u64) -> Result<Text, AllocE
     }
 }
 
-/// A line for each source of a summary.
+/// A line to print for each source of a summary: the source, and its part.
 fn placed_lines(alloc: Global, summary: &Summary, count: u64) -> Result<Text, AllocError>
     requires { IsCountOfParts count }
     ensures { IfOk result (λ text. text ≡ kind_lines (placed count (sources_of summary.now))) }
@@ -164,7 +164,7 @@ fn placed_lines(alloc: Global, summary: &Summary, count: u64) -> Result<Text, Al
     print(alloc, &Answer::Kinds(rows))
 }
 
-/// The sources of a summary, each with its part.
+/// The sources of the summary of the files' events, each with its part.
 fn placed(alloc: Global, summary: &Summary, count: u64) -> Result<Kinds, AllocError>
     requires { IsCountOfParts count }
     ensures { IfOk result (λ rows. rows ≡ placed count (sources_of summary.now)) }

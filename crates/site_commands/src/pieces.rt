@@ -36,28 +36,28 @@ pub struct Pieces {
     pub places: Vec<LineAt>,
 }
 
-/// Whether a byte is white space of JSON.
+/// Whether a byte of a file's line is white space of JSON.
 fn is_white(byte: u8) -> bool
     ensures { result ≡ is_white byte }
 {
     byte == b' ' || byte == b'\t' || byte == b'\r'
 }
 
-/// Whether a line has nothing but white space.
+/// Whether a line of a file has nothing but white space.
 pub(crate) fn is_blank(line: &[u8]) -> bool
     ensures { result ≡ is_blank line.now }
 {
     line.iter().all(|byte| is_white(*byte))
 }
 
-/// The place of the first LF.
+/// The place of the first LF in a file's text.
 fn line_end(text: &[u8]) -> Option<usize>
     ensures { result ≡ position (λ b. b == 10) text.now }
 {
     text.iter().position(|byte| *byte == b'\n')
 }
 
-/// The first line of a text, and what stands behind its LF, where it has one.
+/// The first line of a file's text, and what stands behind its LF, where it has one.
 pub(crate) fn first_line(text: &[u8]) -> (&[u8], Option<&[u8]>)
     ensures lines { lines_of text.now
         ≡ result.0.now ∷ option_map_or (λ rest. lines_of rest.now) result.1 [] }
@@ -70,7 +70,7 @@ pub(crate) fn first_line(text: &[u8]) -> (&[u8], Option<&[u8]>)
 }
 
 impl Pieces {
-    /// No lines.
+    /// No lines of files to judge.
     fn empty(alloc: Global) -> Pieces
         ensures texts { result.texts.items ≡ [] }
         ensures places { result.places.items ≡ [] }
@@ -81,7 +81,7 @@ impl Pieces {
         }
     }
 
-    /// Adds the line of a file behind so many others, unless it is blank.
+    /// Adds the line of a file to judge, behind so many others, unless it is blank.
     fn add(&mut self, alloc: Global, file: u64, before: u64, line: &[u8]) -> Result<(), AllocError>
         requires { before + 1 < 2 ^ 64 }
         ensures texts { OnOk result (self.new.texts.items
@@ -100,7 +100,7 @@ impl Pieces {
         Ok(())
     }
 
-    /// Adds the lines of a file.
+    /// Adds the lines of a file to judge.
     fn add_file(&mut self, alloc: Global, file: u64, bytes: &[u8]) -> Result<(), AllocError>
         ensures texts { OnOk result (self.new.texts.items
             ≡ self.old.texts.items ++ bytes_of_lines (lines_from file 0 (lines_of bytes.now))) }
@@ -119,7 +119,7 @@ impl Pieces {
     }
 }
 
-/// The lines of all files. The bytes of a file are given back before those of the next are cut.
+/// The lines of all files to judge. The bytes of a file are given back before the next are cut.
 fn file_lines(alloc: Global, contents: Vec<Octets>) -> Result<Pieces, AllocError>
     ensures texts { IfOk result (λ p. p.texts.items ≡ bytes_of_lines (file_lines contents.items)) }
     ensures places { IfOk result (λ p. p.places.items ≡ places_of_lines (file_lines contents.items)) }
@@ -136,7 +136,7 @@ fn file_lines(alloc: Global, contents: Vec<Octets>) -> Result<Pieces, AllocError
 }
 
 /// What is judged of these contents of files: the lines, or each as it is.
-pub(crate) fn pieces_in(
+pub(crate) fn pieces_of(
     alloc: Global,
     contents: Vec<Octets>,
     has_lines: bool,
@@ -155,7 +155,7 @@ pub(crate) fn pieces_in(
 
 /// What is judged of the files of these names: their lines, or each file as a whole. All are read
 /// first.
-pub fn pieces_of<S: Shelf>(
+pub fn read_pieces<S: Shelf>(
     alloc: Global,
     shelf: &S,
     files: &[Text],
@@ -167,7 +167,7 @@ pub fn pieces_of<S: Shelf>(
         (IsUnreadAt (S.is_content shelf.now) (S.is_unread shelf.now) files.now) }
 {
     match contents_of(alloc, shelf, files) {
-        Ok(contents) => match pieces_in(alloc, contents, has_lines) {
+        Ok(contents) => match pieces_of(alloc, contents, has_lines) {
             Ok(pieces) => Ok(pieces),
             Err(_) => Err(UnreadAt {
                 file: 0,
@@ -178,7 +178,7 @@ pub fn pieces_of<S: Shelf>(
     }
 }
 
-/// The refusal of what is judged of files: of a file, or of the line that stands there.
+/// The program's refusal of what is judged of files: of a file, or of the line that stands there.
 pub fn refusal_at(has_lines: bool, places: &[LineAt], refused: Refused) -> Refusal
     ensures { (contents : List (List ℕ)) → places.now ≡ places_in has_lines contents
         → IsRefusal (pieces_of has_lines contents) refused
@@ -197,7 +197,7 @@ pub fn refusal_at(has_lines: bool, places: &[LineAt], refused: Refused) -> Refus
     }
 }
 
-/// The refusal for want of memory of what is judged of files.
+/// The program's refusal for want of memory of what is judged of files.
 pub fn memory_refusal(has_lines: bool) -> Refusal
     ensures { (contents : List (List ℕ)) → IsInputRefused has_lines contents result }
 {
@@ -211,7 +211,7 @@ pub fn memory_refusal(has_lines: bool) -> Refusal
     Refusal::File(Refused { file: 0, fault })
 }
 
-/// The names of lines of these files.
+/// The names of lines of these files, for error lines.
 pub fn line_names(alloc: Global, files: &[Text], places: &[LineAt]) -> Result<Texts, AllocError>
     ensures { IfOk result (λ names. names ≡ line_names files.now places.now) }
 {

@@ -4,19 +4,19 @@ use inbox_table::{Unwatched, Watch};
 
 /// Is told how far a command came. What it does changes nothing of what comes of the command.
 pub trait Progress: Watch {
-    /// So many files are left to read.
+    /// So many of the program's files are left to read.
     fn left(&self, files: u64);
 
-    /// Of a stream so many lines are done with: each was kept or refused, and acknowledged.
+    /// So many lines of the program's stream are done: each was kept or refused, and acknowledged.
     fn lines(&self, count: u64);
 
-    /// Nothing more is told of how far it came.
+    /// Nothing more is told on a terminal of how far the program came.
     fn over(&self);
 
-    /// Whether somebody looks on, for whom a hint is worth its time.
+    /// Whether somebody looks on at the program, for whom a hint is worth its time.
     fn is_watched(&self) -> bool;
 
-    /// What can be done about a refusal, behind its line.
+    /// What can be done about a refusal, behind its error line.
     fn hint(&self, line: Shown, hint: &str);
 }
 

@@ -3,7 +3,7 @@ ghost use Rattle.std.specs.Prelude.{◌≡◌, IfErr, IfOk, None, Some};
 ghost use Rattle.site_commands.specs.Answers.{AnswersQuery, RefusesFiles, RefusesQuery};
 
 use crate::line::Refusal;
-use crate::pieces::{Pieces, pieces_of, refusal_at};
+use crate::pieces::{Pieces, read_pieces, refusal_at};
 use attributes::Text;
 use databases::{CommandFault, Databases};
 use event_files::{EventReader, Shelf};
@@ -53,7 +53,7 @@ fn ask_files<S: Shelf, F: EventReader>(
         (AnswersQuery (S.is_content shelf.now) query has_lines None files.now) }
     ensures err { IfErr result (RefusesFiles (S.is_content shelf.now) (S.is_unread shelf.now) has_lines files.now) }
 {
-    match pieces_of(alloc, shelf, files, has_lines) {
+    match read_pieces(alloc, shelf, files, has_lines) {
         Ok(Pieces { texts, places }) => match report(alloc, reader, query, texts) {
             Ok(report) => {
                 mem::forget(report.events);
@@ -65,7 +65,7 @@ fn ask_files<S: Shelf, F: EventReader>(
     }
 }
 
-/// The answer to the query for the events of all files and those of a database.
+/// The answer to the query for the events of all files and those of a given database.
 fn ask_with<S: Shelf, F: EventReader, D: Databases>(
     alloc: Global,
     shelf: &S,
@@ -82,7 +82,7 @@ fn ask_with<S: Shelf, F: EventReader, D: Databases>(
     ensures err { IfErr result (RefusesQuery (S.is_content shelf.now) (S.is_unread shelf.now)
         has_lines (Some db.now) files.now) }
 {
-    match pieces_of(alloc, shelf, files, has_lines) {
+    match read_pieces(alloc, shelf, files, has_lines) {
         Ok(Pieces { texts, places }) => match site_of(alloc, reader, texts) {
             Ok(events) => match databases.events(alloc, db) {
                 Ok(held) => match report_with(query, events, held) {

@@ -9,7 +9,7 @@ use number_lines::{LineRefusal, refusal_of, words_of};
 use numbers::NumberFault;
 use std::alloc::{AllocError, Global};
 
-/// What to do about a refusal of `number`.
+/// The hint on what to do about a refusal of `number`.
 fn number_hint<'a>(why: LineRefusal) -> &'a str
     ensures { result.now ≡ number_hint why }
 {

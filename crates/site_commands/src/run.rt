@@ -3,11 +3,11 @@ ghost use Rattle.std.specs.Prelude.{◌≡◌, ◌≤◌, Err, IfErr, IfOk, Matc
 ghost use Rattle.std.specs.Option.{is_some};
 ghost use Rattle.std.specs.Process.{exit_status};
 ghost use Rattle.command_words.specs.Plans.{AreFaulty, AreFew};
-ghost use Rattle.site_commands.specs.Answers.{AnswersOnce, IsAllowedOnce, IsAllowedAlone, IsAllowedPlan, RefusesOnce};
+ghost use Rattle.site_commands.specs.Answers.{AnswersOnce, IsAllowedOnce, IsAllowedAlone, RefusesOnce};
 ghost use Rattle.site_commands.specs.Inputs.{MayBeRead, MayBeUnread};
 ghost use Rattle.site_commands.specs.Printed.{printed};
 ghost use Rattle.site_commands.specs.declared.printed.Printed.TheVariants as Printed;
-ghost use Rattle.site_commands.specs.Runs.{EndsUnheard, IsOnceEnding, IsRunEnding, IsUnheard, PrintsAnswer, RunsAlone, RunsBeside, RunsPlan, RunsWords, said};
+ghost use Rattle.site_commands.specs.Runs.{EndsUnheard, IsOnceEnding, IsRunEnding, IsUnheard, PrintsAnswer, RunsAlone, RunsBeside, RunsWords, said};
 
 use crate::check::ending_of_check;
 use crate::combine::ending_of_combine;
@@ -29,7 +29,7 @@ use crate::workers::run;
 use attributes::Text;
 use command_words::{Alone, Faulty, Once, Pages, Plan, Run, invocation};
 use databases::Databases;
-use event_files::{EventReader, SequentialReader, Shelf};
+use event_files::{EventReader, Shelf};
 use number_lines::Numberers;
 use parallel_reader::ParallelReader;
 use run_command::Runs;
@@ -78,8 +78,8 @@ pub fn exit<
 /// a refusal and for output that can't be written, 2 for faulty words and for help.
 ///
 /// All files are read before any is judged, and judged before a database is opened, but for the
-/// feeds of `run`, which their workers judge, and for `follow`, whose lines are taken, kept and
-/// acknowledged as they come. A result is written to `out` in one piece, a refusal as one line to
+/// feeds of `run`, which their workers judge, and for `follow` and `number`, whose lines are answered
+/// as they come. A result is written to `out` in one piece, or by pages, a refusal as one line to
 /// `err`; what a page was made for, the file or a service in it, is told there too. Help that was
 /// asked for goes to `out`, what is said of faulty words to `err`. After a write that fails nothing
 /// more is written. It waits where `run` does, and for a database that another process has, as long
@@ -104,34 +104,19 @@ pub fn perform<
     match invocation(rt.alloc(), words) {
         Ok(asked) => {
             let databases = databases.waiting(asked.wait);
-            perform_plan(rt, &databases, &asked.plan, out, err, progress)
+            match &asked.plan {
+                Plan::Alone(plan) => {
+                    let reader = ParallelReader { rt };
+                    perform_alone(rt, &databases, &reader, plan, out, err, progress)
+                }
+                Plan::Run(plan) => perform_run(rt, &databases, plan, out, err, progress),
+            }
         }
         Err(faulty) => finish(said(faulty), out, err, progress),
     }
 }
 
-/// Carries out a plan, as [`perform`] does.
-fn perform_plan<
-    R: AllocGlobal + Files + Threads + Wait + Sync,
-    D: Databases + Numberers + Runs + Drop,
-    O: Write,
-    E: Write,
-    P: Progress,
->(rt: &R, databases: &D, plan: &Plan, out: &mut O, err: &mut E, progress: &P) -> u8
-    requires { IsAllowedPlan plan.now }
-    ensures { RunsPlan MayBeRead MayBeUnread plan.now result
-        (O.contents out.old) (O.contents out.new) (E.contents err.old) (E.contents err.new) }
-{
-    match plan {
-        Plan::Alone(plan) => {
-            let reader = ParallelReader { rt };
-            perform_with(rt, databases, &reader, plan, out, err, progress)
-        }
-        Plan::Run(plan) => perform_run(rt, databases, plan, out, err, progress),
-    }
-}
-
-/// What is said of faulty words.
+/// What the program says of faulty words.
 fn said(faulty: Faulty) -> Ending
     ensures { result ≡ said faulty }
 {
@@ -147,33 +132,10 @@ fn said(faulty: Faulty) -> Ending
     }
 }
 
-/// Carries out a plan without starting a thread, and answers the exit status, as [`perform`] does; it
-/// doesn't wait. A stream is written as it goes; of every other plan it is known what it comes to
-/// before anything is written.
+/// Carries out a plan that waits for no thread, and answers the exit status, as [`perform`] does.
+/// The reader of the files' events alone may start threads. A stream is written as it goes; of every other plan
+/// it is known what it comes to before anything is written.
 pub fn perform_alone<
-    R: AllocGlobal + Files,
-    D: Databases + Numberers + Drop,
-    O: Write,
-    E: Write,
-    P: Progress,
->(rt: &R, databases: &D, plan: &Alone, out: &mut O, err: &mut E, progress: &P) -> u8
-    requires { IsAllowedAlone plan.now }
-    ensures { RunsAlone MayBeRead MayBeUnread plan.now result
-        (O.contents out.old) (O.contents out.new) (E.contents err.old) (E.contents err.new) }
-{
-    perform_with(
-        rt,
-        databases,
-        &SequentialReader {},
-        plan,
-        out,
-        err,
-        progress,
-    )
-}
-
-/// As [`perform_alone`], with a reader of the events of files, which may start threads.
-fn perform_with<
     R: AllocGlobal + Files,
     D: Databases + Numberers + Drop,
     F: EventReader,
@@ -259,7 +221,7 @@ fn long_files(plan: &Once) -> u64 {
     }
 }
 
-/// The database that a plan makes where there is none, though it only asks for a page.
+/// The database that the program's plan makes where there is none, though it only asks for a page.
 fn made_by(plan: &Once) -> Option<&str> {
     match plan {
         Once::Delta {
@@ -339,7 +301,7 @@ fn ending_of_run<
     }
 }
 
-/// The answer to a plan that has one.
+/// The program's answer to a plan that has one.
 fn answer_once<S: Shelf, F: EventReader, D: Databases, P: Progress>(
     alloc: Global,
     shelf: &S,
@@ -431,7 +393,7 @@ fn answer_once<S: Shelf, F: EventReader, D: Databases, P: Progress>(
     }
 }
 
-/// An answer that is one text.
+/// An answer of the program that is one text.
 fn printed_line(answer: Result<Text, Refusal>) -> Result<Printed, Refusal>
     ensures { MatchResult answer (λ text. result ≡ Ok (Printed.Line text)) (λ e. result ≡ Err e) }
 {
@@ -441,7 +403,7 @@ fn printed_line(answer: Result<Text, Refusal>) -> Result<Printed, Refusal>
     }
 }
 
-/// The ending where the words couldn't be had: memory was refused, or one isn't UTF-8.
+/// The program's ending where its words couldn't be had: memory was refused, or one isn't UTF-8.
 fn unheard(alloc: Global, kind: ErrorKind) -> Ending
     ensures { IsUnheard result }
 {

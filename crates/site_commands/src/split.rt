@@ -59,7 +59,7 @@ pub fn ending_of_split<S: Looks, F: EventReader, W: Outputs, D: Databases + Drop
     }
 }
 
-/// What the parts of these events come to.
+/// What the parts of these events come to, each saved as a file.
 fn ending_of_events<W: Outputs, P: Progress>(
     alloc: Global,
     outputs: &mut W,
@@ -88,7 +88,7 @@ fn unsaved<P: Progress>(alloc: Global, plan: &Split, place: u64, progress: &P) -
     }
 }
 
-/// What can be done where a file wasn't saved; none where nobody looks on.
+/// The hint on what can be done where a part's file wasn't saved; none where nobody looks on.
 fn unsaved_hint<P: Progress>(progress: &P) -> Option<Hint> {
     if !progress.is_watched() {
         return None;
@@ -98,7 +98,7 @@ fn unsaved_hint<P: Progress>(progress: &P) -> Option<Hint> {
     ))
 }
 
-/// The line of a part's file that can't be written.
+/// The error line of a part's file that can't be written.
 fn unsaved_line(alloc: Global, plan: &Split, place: u64) -> Result<Text, AllocError>
     ensures { IfOk result (λ line. line ≡ unsaved_line plan.now place) }
 {
@@ -140,7 +140,7 @@ fn save_events<W: Outputs>(
     }
 }
 
-/// A line for each part: the name of its file, and how many events it has.
+/// A line to print for each saved part: the name of its file, and how many events it has.
 fn part_lines(alloc: Global, plan: &Split, parts: &[Batch]) -> Result<Text, AllocError>
     ensures { IfOk result (λ text. (events : List EventValue)
         → AreAllParts plan.now.count events parts.now → text ≡ part_count_lines plan.now events) }
@@ -188,7 +188,7 @@ fn save_parts<W: Outputs>(
     Ok(())
 }
 
-/// Saves the file of a part with these events.
+/// Saves the file of a part with these events, by its name with the prefix.
 fn save_part<W: Outputs>(
     alloc: Global,
     outputs: &mut W,

@@ -84,7 +84,7 @@ fn kept<S: Streams, D: Databases, O: Write>(
     }
 }
 
-/// How a stream ended for the command: lines at fault are a refusal.
+/// How a stream ended for the command `follow`: lines at fault are a refusal.
 fn end(ended: Result<u64, StreamFault>) -> StreamEnd
     ensures { MatchResult ended (λ faults. result ≡ end_of_stream faults) (λ why. result ≡ end_at why) }
 {
@@ -96,7 +96,7 @@ fn end(ended: Result<u64, StreamFault>) -> StreamEnd
     }
 }
 
-/// How a stream ended that came to the end of its input, with so many lines at fault.
+/// How a command's stream ended that came to the end of its input, with so many lines at fault.
 #[tactic(auto, using(crate::proofs::StreamLemmas::end_of_some))]
 pub(crate) fn end_of(faults: u64) -> StreamEnd
     ensures { result ≡ end_of_stream faults }
@@ -107,7 +107,7 @@ pub(crate) fn end_of(faults: u64) -> StreamEnd
     StreamEnd::Refused(Refusal::Lines(faults))
 }
 
-/// An input that couldn't be read on, as a file that wasn't read.
+/// A command's input that couldn't be read on, as a file that wasn't read.
 pub(crate) fn unread_of(why: LineFault) -> UnreadAt
     ensures { result ≡ unread_of why }
 {

@@ -10,7 +10,7 @@ ghost use Rattle.site_commands.specs.Pieces.{IsInputRefused, pieces_of, places_i
 
 use crate::batches::{FeedFault, append, feeds_of};
 use crate::line::Refusal;
-use crate::pieces::{Pieces, memory_refusal, pieces_in, refusal_at};
+use crate::pieces::{Pieces, memory_refusal, pieces_of, refusal_at};
 use attributes::{Batch, List, Octets, Text, Texts};
 use databases::CommandFault;
 use event_files::{
@@ -82,7 +82,7 @@ fn files_of_run(alloc: Global, peer: &Option<Text>, files: &[Text]) -> Result<Te
     }
 }
 
-/// The texts as a list of their own.
+/// The names or texts of the program's plan as a list of their own.
 fn copies(alloc: Global, texts: &[Text]) -> Result<Texts, AllocError>
     ensures { IfOk result (λ copies. copies ≡ texts.now) }
 {
@@ -93,7 +93,7 @@ fn copies(alloc: Global, texts: &[Text]) -> Result<Texts, AllocError>
     Ok(copies)
 }
 
-/// The peer of this content: a site with its events.
+/// The peer of a run of this file's content: a site with its events.
 fn peer_of(alloc: Global, content: Octets, has_lines: bool) -> Result<Site, Refusal>
     ensures ok { IfOk result (λ site. ArePeers true has_lines (content ∷ []) (site ∷ [])) }
     ensures err { IfErr result (IsInputRefused has_lines (content ∷ [])) }
@@ -113,17 +113,17 @@ fn peer_of(alloc: Global, content: Octets, has_lines: bool) -> Result<Site, Refu
     }
 }
 
-/// What is judged of the content of one file.
+/// What is judged of the content of one file of a run.
 fn piece_of(alloc: Global, content: Octets, has_lines: bool) -> Result<Pieces, AllocError>
     ensures texts { IfOk result (λ p. p.texts.items ≡ pieces_of has_lines (content ∷ [])) }
     ensures places { IfOk result (λ p. p.places.items ≡ places_in has_lines (content ∷ [])) }
 {
     let mut contents = Vec::new(alloc);
     contents.push(content)?;
-    pieces_in(alloc, contents, has_lines)
+    pieces_of(alloc, contents, has_lines)
 }
 
-/// A site that took these events.
+/// A site that took these events of the peer's file of a run.
 fn site_of(alloc: Global, events: Batch) -> Result<Site, AllocError>
     ensures { IfOk result (λ site. site ≡ peer_of events) }
 {
@@ -135,7 +135,7 @@ fn site_of(alloc: Global, events: Batch) -> Result<Site, AllocError>
     }
 }
 
-/// Runs with a peer, whose content is the first.
+/// Runs files into a database with a peer, whose content is the first.
 fn run_with_peer<R: Threads + Wait + Sync, D: Runs, W: Watch>(
     rt: &R,
     alloc: Global,
@@ -164,7 +164,7 @@ fn run_with_peer<R: Threads + Wait + Sync, D: Runs, W: Watch>(
     )
 }
 
-/// Runs without a peer.
+/// Runs files into a database without a peer.
 fn run_feeds<R: Threads + Wait + Sync, D: Runs, W: Watch>(
     rt: &R,
     alloc: Global,
@@ -184,7 +184,7 @@ fn run_feeds<R: Threads + Wait + Sync, D: Runs, W: Watch>(
     )
 }
 
-/// Runs beside these peers; the feeds' files stand from the place `first` on.
+/// Runs files into a database beside these peers; the feeds' files stand from the place `first` on.
 fn run_workers<R: Threads + Wait + Sync, D: Runs, W: Watch>(
     rt: &R,
     alloc: Global,
@@ -225,7 +225,7 @@ fn run_workers<R: Threads + Wait + Sync, D: Runs, W: Watch>(
     }
 }
 
-/// About how many bytes a database grows by when it takes these contents.
+/// About how many bytes a database grows by when a run takes these contents of files.
 fn bytes_in(contents: &[Octets]) -> u64 {
     let mut bytes: u64 = 0;
     for content in contents {

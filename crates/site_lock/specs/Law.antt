@@ -8,17 +8,17 @@ use Rattle.site_lock.specs.contracts.pass.Pass as pass
 use Rattle.site_lock.specs.contracts.shared.SharedSite as shared
 use Rattle.site_lock.specs.Pass.{Closes, Made, ShownPass, leaves}
 
--- a first pass that was never split has seen the whole history where it closes the site: no entry
--- of others comes behind what it has seen, and the site comes out with the arrivals after that
+-- the shared site's first pass, never split, has seen all history where it closes the site: no
+-- entry of others comes behind what it has seen, and it comes out with the arrivals after that
 abbrev pub UnsplitPassesSeeAll : Type 0
 UnsplitPassesSeeAll = (p : ShownPass) (A : List EventValue) → p.number ≡ [] → p.splits ≡ 0
     → (end : Closes p A) → (end.others ≡ []) × (A ≡ leaves p)
 
--- a call of a pass is one of the site machine, behind what others added
+-- a call of a pass of the shared site is one of the site machine, behind what others added
 abbrev pub CallsFollow : Type 0
 CallsFollow = (p q : ShownPass) (c : Call) → Made p q c → Follows (leaves p) c (leaves q)
 
--- a pass may go to another thread
+-- a pass of the shared site may go to another thread
 abbrev pub PassesAreSend : Type 0
 PassesAreSend = IsSend pass.the_row
 

@@ -9,13 +9,13 @@ use Rattle.site.specs.declared.call.Call.{Call}
 use Rattle.turn_lock.specs.declared.machine.Entry.{Entry}
 use Rattle.site_lock.specs.Pass.{ShownPass}
 
--- an entry is its number and its call
+-- an entry in the shared site's history is its number and its call
 abbrev pub entry_code : Coded (Entry Call)
 entry_code =
     code_by (List ℕ × Call) (coded× (coded_list coded_ℕ) call.the_row.coded)
     (λ e. (e.number, e.call)) (λ p. record { number = p.0; call = p.1 }) (λ _. refl)
 
--- what a pass shows is the tuple of its fields
+-- what a pass of the shared site shows is the tuple of its fields
 abbrev Fields : Type 0
 Fields =
     TableId × (List ℕ × (ℕ × (List EventValue × (List (Entry Call) × List (Entry Call)))))

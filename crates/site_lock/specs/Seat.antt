@@ -11,7 +11,7 @@ use Rattle.turn_lock.specs.Turn.{HasTurn, IsIdle}
 use Rattle.site_lock.specs.declared.held.Held.{Held}
 use Rattle.site_lock.specs.Pass.{ShownPass}
 
--- the arrivals of the site in its slot
+-- the arrivals of the shared site in its slot
 abbrev pub arrivals_of : Held → List EventValue
 arrivals_of held = held.site
 
@@ -25,7 +25,7 @@ abbrev pub number_of_pass : Option (List ℕ) → List ℕ
 number_of_pass None = []
 number_of_pass (Some n) = n
 
--- what the pass shows of its view
+-- what a pass of the shared site shows of its view
 abbrev pub shown : TableId → SiteView → ShownPass
 shown table v = record {
   table = table;
@@ -36,12 +36,12 @@ shown table v = record {
   mine = v.mine;
 }
 
--- between calls: it waits for nothing, and the site opened with arrivals that are there once each
+-- between calls of the shared site: it waits for nothing, and opened with arrivals once each
 pub record IsAtRest (m : Seat) : Type 0 where
   pub idle : IsIdle arrivals_of arrivals_after HasRightReply m
   pub once : AreDistinct m.0.opening
 
--- the turn may end with the call c and these arrivals
+-- the turn with the shared site may end with the call c and these arrivals
 abbrev pub MayEnd : Seat → List EventValue → Call → Type 0
 MayEnd m B c = (A : List EventValue) × HasTurn arrivals_of arrivals_after HasRightReply m A
     × (B ≡ arrivals_after A c) × HasRightReply A c

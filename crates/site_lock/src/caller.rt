@@ -27,7 +27,7 @@ pub struct Caller<'a, R: Wait> {
 }
 
 impl<'a, R: Wait> Caller<'a, R> {
-    /// A caller with this pass, which must be of the shared site.
+    /// A caller of the shared site with this pass, which must be of that site.
     pub fn of(rt: &'a R, shared: &'a SharedSite, pass: Pass) -> Caller<'a, R>
         requires { pass.table ≡ shared.now }
         ensures pass { result.pass ≡ pass }
@@ -36,7 +36,7 @@ impl<'a, R: Wait> Caller<'a, R> {
         Caller { rt, shared, pass }
     }
 
-    /// The pass, as it stands.
+    /// The pass of a caller of the shared site, as it stands.
     pub fn into_pass(self) -> Pass
         ensures { result ≡ self.entry.pass }
     {

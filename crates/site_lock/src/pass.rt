@@ -30,9 +30,9 @@ impl Model for Pass {
 }
 
 impl Pass {
-    /// Tells what holds of each pass: its history is that of a site used by one thread, with just
-    /// its own calls under its number, and the arrivals after it are there once each. It does
-    /// nothing.
+    /// Tells what holds of each pass of the shared site: its history is that of a site used by one
+    /// thread, with just its own calls under its number, and the arrivals after it are there once
+    /// each. It does nothing.
     pub fn stands(&self)
         ensures { IsTruePass self.now }
     {

@@ -69,8 +69,8 @@ impl SharedSite {
         }
     }
 
-    /// A new pass, for another thread. It has seen as much as this one, and made no call. It takes
-    /// no memory and waits for nobody.
+    /// A new pass of the shared site, for another thread. It has seen as much as this one, and made
+    /// no call. It takes no memory and waits for nobody.
     pub fn split(&self, pass: &mut Pass) -> Result<Pass, AllocError>
         requires { pass.old.table ≡ self.now }
         ensures ok { IsOk result }
@@ -81,7 +81,7 @@ impl SharedSite {
         Ok(Pass { seat })
     }
 
-    /// The pass `me` learns all that the other has seen. It takes no memory and waits for nobody.
+    /// The pass `me` of the site learns what the other has seen. Takes no memory, waits for nobody.
     pub fn meet(&self, me: &mut Pass, other: &mut Pass) -> Result<(), AllocError>
         requires own { me.old.table ≡ self.now }
         requires others { other.old.table ≡ self.now }
@@ -93,7 +93,7 @@ impl SharedSite {
         Ok(())
     }
 
-    /// How many turns ended. It waits for nobody.
+    /// How many turns with the shared site ended. It waits for nobody.
     pub fn turns(&self, pass: &mut Pass) -> u64
         requires { pass.old.table ≡ self.now }
         ensures same { pass.new ≡ pass.old }
@@ -102,7 +102,7 @@ impl SharedSite {
         self.turns.turns(&mut pass.seat)
     }
 
-    /// Waits for a turn and takes the site out for good. Nobody gets a turn from then on.
+    /// Waits for a turn, takes the shared site out for good. Nobody gets a turn from then on.
     pub fn close<R: Wait>(self, rt: &R, pass: Pass) -> Site
         requires { pass.table ≡ self }
         ensures { Closes pass result }
@@ -113,7 +113,7 @@ impl SharedSite {
         site
     }
 
-    /// Ends the turn with the call that `W` says, which is of this command and this reply.
+    /// Ends the shared site's turn with the call that `W` says, of this command and this reply.
     fn end<W: Says<Call>, M, P>(
         &self,
         seat: &mut turn_lock::Pass<Held, Batch, Call>,

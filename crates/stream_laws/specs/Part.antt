@@ -14,7 +14,7 @@ use Rattle.line_intake.specs.declared.answer.Told.{Told}
 use Rattle.databases.specs.Pages.{pages_text}
 use Rattle.stream_laws.specs.Stream.{SendsLine, parts}
 
--- the lines of the pages can be taken from their text, to its end, and be judged as the pages
+-- in lines of shell the pages' lines can be taken from their text, to its end, and judged as pages
 pub record PagesCome (es : List EventValue) : Type 0 where
   pub taken : TakesLines (Some (pages_text es)) (map batch_text (parts es)) (Some [])
   pub judged : (before : ℕ)
@@ -23,8 +23,8 @@ pub record PagesCome (es : List EventValue) : Type 0 where
 abbrev pub AllPagesCome : Type 0
 AllPagesCome = (es : List EventValue) → AreEvents es → HaveEachNumber es → PagesCome es
 
--- turns that stop anywhere in the text of the pages keep a front of the events, and no line of theirs
--- is at fault
+-- turns of a `follow` that stop anywhere in the text of the pages keep a front of the events, and
+-- no line of theirs is at fault
 abbrev pub FrontsAreTaken : Type 0
 FrontsAreTaken = (held es events : List EventValue) → AreEvents es → HaveEachNumber es
     → (lines : ℕ) (out : Option (List ℕ)) (turns : List Turn) (last : StreamPlace)

@@ -95,7 +95,7 @@ pub fn follow_pages<S: Alter + Drop, R: Read, W: Write>(
     follow(alloc, conn, input, out)
 }
 
-/// The text of pages, each behind the one before.
+/// The text of pages in a line of shell, each behind the one before.
 fn text_of(alloc: Global, pages: EventPages) -> Result<Vec<u8>, AllocError>
     ensures { IfOk result (λ text. text.items ≡ pages_text pages) }
 {

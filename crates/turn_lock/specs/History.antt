@@ -6,7 +6,7 @@ use mathlib.Core.Option.{some}
 use lib.ListN.{get_elem?}
 use Rattle.turn_lock.specs.declared.machine.Entry.{Entry}
 
--- two numbers of passes are the same
+-- two numbers of passes in a history of turns are the same
 abbrev pub same_number : List ℕ → List ℕ → Bool
 same_number [] [] = true
 same_number [] (y ∷ ys) = false
@@ -32,12 +32,12 @@ module _ {C : Type 0} where
   GoesOnBelow n k log = (x : ℕ) (e : Entry C) (i : ℕ) (more : List ℕ)
       → get_elem? log x ≡ some e → e.number ≡ n ++ i ∷ more → i < k
 
--- the state after all calls
+-- the state of the object that threads use in turns, after all calls of a history
 abbrev pub after : {A C : Type 0} → (A → C → A) → A → List (Entry C) → A
 after next a [] = a
 after next a (e ∷ es) = after next (next a e.call) es
 
--- each reply is the one that an object used by one thread gives there
+-- the history is legal: each reply is the one that an object used by one thread gives there
 abbrev pub IsLegal : {A C : Type 0} → (A → C → A) → (A → C → Type 0) → A → List (Entry C) → Type 0
 IsLegal next fits a [] = Unit {0}
 IsLegal next fits a (e ∷ es) = fits a e.call × IsLegal next fits (next a e.call) es

@@ -3,12 +3,12 @@ use Rattle.std.specs.Prelude.{ℕ, ◌+◌, ◌-◌, true, false, cond, leb, Lis
 use Rattle.turn_lock.specs.declared.machine.Entry.{Entry}
 use Rattle.turn_lock.specs.declared.machine.View.{View}
 
--- the number of the k-th pass that is split off
+-- the number of the k-th pass that is split off a pass of an object used in turns
 abbrev pub child : Option (List ℕ) → ℕ → Option (List ℕ)
 child None k = None
 child (Some n) k = Some (n ++ k ∷ [])
 
--- of two histories the longer, and the shorter
+-- of two histories of an object used in turns the longer, and the shorter
 abbrev pub longer : {C : Type 0} → List (Entry C) → List (Entry C) → List (Entry C)
 longer a b = cond (leb (length a) (length b)) b a
 

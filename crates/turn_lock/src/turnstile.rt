@@ -57,8 +57,8 @@ impl<O: Machine<A, C> + Drop, A, C> Model for Turnstile<O, A, C> {
 }
 
 impl<O: Machine<A, C> + Drop, A, C> Turnstile<O, A, C> {
-    /// A turnstile with the object in it, and its first pass. Where there is no memory, the object
-    /// comes back.
+    /// A turnstile with the object in it that threads use in turns, and its first pass. Where there
+    /// is no memory, the object comes back.
     pub fn open(alloc: Global, object: O) -> Result<(Turnstile<O, A, C>, Pass<O, A, C>), O>
         ensures opened { IfOk result (λ t. (t.1.table_id ≡ t.0)
             × (t.1.me.0 ≡ newcomer [] (O.state object) [])
@@ -82,7 +82,7 @@ impl<O: Machine<A, C> + Drop, A, C> Turnstile<O, A, C> {
         }
     }
 
-    /// Waits for a turn and takes the object out. The pass has then heard of all calls so far.
+    /// Waits for a turn, takes the turnstile's object. The pass has then heard of all calls so far.
     pub fn enter<R: Wait>(&self, rt: &R, pass: &mut Pass<O, A, C>) -> O
         requires own { pass.old.table_id ≡ self.now }
         requires idle { IsIdle O.state O.next O.fits pass.old.me }
@@ -98,8 +98,8 @@ impl<O: Machine<A, C> + Drop, A, C> Turnstile<O, A, C> {
         object
     }
 
-    /// Gives the object back and ends the turn with the call that `W` says: what was done to the
-    /// object while it was out.
+    /// Gives the object back to the turnstile and ends the turn with the call that `W` says: what
+    /// was done to the object while it was out.
     pub fn leave<W: Says<C>>(&self, pass: &mut Pass<O, A, C>, object: O)
         requires own { pass.old.table_id ≡ self.now }
         requires said { (c : C) × (W.call ≡ Some c)
@@ -114,7 +114,7 @@ impl<O: Machine<A, C> + Drop, A, C> Turnstile<O, A, C> {
         self.finish(pass);
     }
 
-    /// Takes the object out for good, in a turn that ends with no call.
+    /// Takes the turnstile's object out for good, in a turn that ends with no call.
     pub fn close<R: Wait>(self, rt: &R, mut pass: Pass<O, A, C>) -> O
         requires own { pass.table_id ≡ self }
         requires idle { IsIdle O.state O.next O.fits pass.me }
@@ -123,7 +123,7 @@ impl<O: Machine<A, C> + Drop, A, C> Turnstile<O, A, C> {
         self.enter(rt, &mut pass)
     }
 
-    /// How many turns ended.
+    /// How many turns with the turnstile's object ended.
     pub fn turns(&self, pass: &mut Pass<O, A, C>) -> u64
         requires own { pass.old.table_id ≡ self.now }
         ensures own { (pass.new.table_id ≡ pass.old.table_id) × (pass.new.id ≡ pass.old.id)
@@ -133,7 +133,7 @@ impl<O: Machine<A, C> + Drop, A, C> Turnstile<O, A, C> {
         self.table.shared.load::<Count>(pass, 0)
     }
 
-    /// A new pass, which has seen as much and has made no call.
+    /// A new pass of the turnstile, which has seen as much and has made no call.
     pub fn split(&self, pass: &mut Pass<O, A, C>) -> Pass<O, A, C>
         requires own { pass.old.table_id ≡ self.now }
         requires idle { IsIdle O.state O.next O.fits pass.old.me }
@@ -148,7 +148,7 @@ impl<O: Machine<A, C> + Drop, A, C> Turnstile<O, A, C> {
         self.table.shared.split_seat::<Birth>(pass)
     }
 
-    /// The pass `me` learns all that the other has seen.
+    /// The pass `me` learns all that the other has seen of the turnstile's history.
     pub fn meet(&self, me: &mut Pass<O, A, C>, other: &mut Pass<O, A, C>)
         requires own { (me.old.table_id ≡ self.now) × (other.old.table_id ≡ self.now) }
         requires idle { IsIdle O.state O.next O.fits me.old.me }
@@ -163,7 +163,7 @@ impl<O: Machine<A, C> + Drop, A, C> Turnstile<O, A, C> {
         self.table.shared.load::<Learn>(me, 0);
     }
 
-    /// Draws a ticket, while fewer than 2^62 were drawn; from then on it tries for ever.
+    /// Draws a ticket for a turn, while fewer than 2^62 were drawn; from then on it tries for ever.
     fn draw<R: Wait>(&self, rt: &R, pass: &mut Pass<O, A, C>) -> u64
         requires own { pass.old.table_id ≡ self.now }
         requires idle { (pass.old.me.0.ticket ≡ None) × (pass.old.me.0.has_turn ≡ false)
@@ -207,7 +207,7 @@ impl<O: Machine<A, C> + Drop, A, C> Turnstile<O, A, C> {
             .park_timeout(rt, 0, found, Duration::from_micros(1 << doublings));
     }
 
-    /// Waits for the turn of the ticket, and takes the slot.
+    /// Waits for the turn of the ticket, and takes the turnstile's slot.
     fn wait<R: Wait>(&self, rt: &R, pass: &mut Pass<O, A, C>, ticket: u64)
         requires own { pass.old.table_id ≡ self.now }
         requires waits { (pass.old.me.0.ticket ≡ Some ticket)
@@ -228,7 +228,7 @@ impl<O: Machine<A, C> + Drop, A, C> Turnstile<O, A, C> {
         unreachable!()
     }
 
-    /// Notes the call that is to end the turn.
+    /// Notes in the turnstile the call that is to end the turn.
     fn pend<W: Says<C>>(&self, pass: &mut Pass<O, A, C>)
         requires own { pass.old.table_id ≡ self.now }
         requires said { (c : C) × (W.call ≡ Some c) }
@@ -239,7 +239,7 @@ impl<O: Machine<A, C> + Drop, A, C> Turnstile<O, A, C> {
         self.table.shared.load::<Pend<W>>(pass, 0);
     }
 
-    /// Ends the turn with the call that was noted, the object being back in the slot.
+    /// Ends the turn with the call that was noted, the object being back in the turnstile's slot.
     fn finish(&self, pass: &mut Pass<O, A, C>)
         requires own { pass.old.table_id ≡ self.now }
         requires ready { IsReady O.state O.next O.fits pass.old.me }
@@ -251,7 +251,7 @@ impl<O: Machine<A, C> + Drop, A, C> Turnstile<O, A, C> {
         self.table.shared.fetch_add::<End>(pass, 0, 1);
     }
 
-    /// A note of what the pass has seen.
+    /// A note of what the turnstile's pass has seen of the history.
     fn note(&self, pass: &mut Pass<O, A, C>) -> Pass<O, A, C>
         requires own { pass.old.table_id ≡ self.now }
         ensures own { (pass.new.table_id ≡ pass.old.table_id) × (pass.new.id ≡ pass.old.id)

@@ -12,27 +12,27 @@ use Rattle.views.specs.Question.{AreLines, IsAnswer, IsTrueOf, query_of}
 use Rattle.views.specs.declared.query.Query.{Query}
 use Rattle.views.specs.declared.query.Answer.{Answer}
 
--- e is one of the events, of the entity, and no event of the entity is greater by number, then id
+-- `latest` gives e: one of the entity's events, of which none is greater by number, then id
 pub record IsLatest (events : List EventValue)
     (entity : List ℕ × List ℕ) (e : EventValue) : Type 0 where
   pub is_there : Contains events e
   pub of_entity : is_of entity e ≡ true
   pub greatest : list_any (λ f. is_of entity f && is_lt (number_cmp e f)) events ≡ false
 
--- what is found as the latest is
+-- what the question `latest` finds is the latest
 abbrev pub LatestAreGreatest : Type 0
 LatestAreGreatest =
     (events : List EventValue) (entity : List ℕ × List ℕ) (e : EventValue)
     → latest_of events entity ≡ Some e → IsLatest events entity e
 
--- an entity of which there is an event has a latest one
+-- the question `latest` finds an event for each entity of which there is one
 abbrev pub EntitiesHaveLatest : Type 0
 EntitiesHaveLatest =
     (events : List EventValue) (entity : List ℕ × List ℕ) (e : EventValue)
     → Contains events e → is_of entity e ≡ true
     → (l : EventValue) × (latest_of events entity ≡ Some l)
 
--- of the shown events of a set no two of one entity have one number and one id, so none tie
+-- of a set's shown events no two of one entity have one number and id: `latest` never has a tie
 abbrev pub NoneTie : Type 0
 NoneTie =
     (A : List EventValue) (entity : List ℕ × List ℕ) (e f : EventValue) → AreEvents A
@@ -51,13 +51,13 @@ SilenceIsAnswer =
     (query : Query) (E : List EventValue) (a : Answer)
     → query_of a ≡ query → IsTrueOf E a → IsAnswer query E [] → AreLines a []
 
--- a question has one text over a set
+-- a question has one text over a set, the lines of its answer
 abbrev pub AnswersAreOne : Type 0
 AnswersAreOne =
     (query : Query) (E : List EventValue) (text other : List ℕ)
     → IsAnswer query E text → IsAnswer query E other → text ≡ other
 
--- and over the sets of two lists that have the same events, in whatever order and repetition
+-- a question has one text over sets of two lists with the same events, in any order and repetition
 abbrev pub AnswersAreAlike : Type 0
 AnswersAreAlike =
     (query : Query) (A B : List EventValue) (text other : List ℕ) → AreEvents A → AreEvents B

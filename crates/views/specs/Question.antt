@@ -25,7 +25,7 @@ query_of (answer.Kinds rows) = query.Kinds
 query_of (answer.Days rows) = query.Days
 query_of (answer.Gaps rows) = query.Gaps
 
--- it is the answer over the set E
+-- the answer is the one to its question over the set E
 abbrev pub IsTrueOf : List EventValue → Answer → Type 0
 IsTrueOf E (answer.Cover summary) = Sums E summary
 IsTrueOf E (answer.Shown events) = events ≡ shown E
@@ -35,7 +35,7 @@ IsTrueOf E (answer.Kinds rows) = rows ≡ kinds E
 IsTrueOf E (answer.Days rows) = rows ≡ days E
 IsTrueOf E (answer.Gaps rows) = AreGaps E rows
 
--- the text has the lines of the answer
+-- the text has the lines of the answer to a question
 abbrev pub AreLines : Answer → List ℕ → Type 0
 AreLines (answer.Cover summary) text = text ≡ cover_line summary
 AreLines (answer.Shown events) text = text ≡ event_lines events

@@ -27,7 +27,7 @@ impl Model for Day {
 }
 
 impl Day {
-    /// The day number.
+    /// The day number of a UTC day that the question `days` counts by.
     pub fn number(self) -> i32
         ensures value { result ≡ self }
         ensures range { is_day_number self ≡ true }
@@ -35,7 +35,7 @@ impl Day {
         self.number
     }
 
-    /// The day that has the number.
+    /// The UTC day, for the question `days`, that has the number.
     fn of(number: i32) -> Day
         requires { is_day_number number ≡ true }
         ensures { result ≡ number }

@@ -6,14 +6,14 @@ use attributes::laws::text_tells_events;
 use coverage::laws::{numbers_tell_cover_texts, numbers_tell_summaries};
 use inbox::laws::sets_are_members;
 
-/// What is found as the latest event of a source and subject is one of theirs, and none is greater
-/// by number, then id.
+/// What the question `latest` finds for a source and subject is one of their events, and none is
+/// greater by number, then id.
 pub fn latest_are_greatest()
     ensures { LatestAreGreatest }
 {}
 
-/// A source and subject that an event has has a latest event, and just one: no two shown events of
-/// a set tie by number and id there.
+/// The question `latest` finds one event, and just one, of each source and subject that an event
+/// has: no two shown events of a set tie by number and id there.
 pub fn latest_are_one()
     ensures each { EntitiesHaveLatest }
     ensures one { NoneTie }

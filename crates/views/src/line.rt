@@ -12,7 +12,7 @@ ghost use Rattle.views.specs.Line.{AreDayLines, IsDayLine, conflict_line, confli
 ghost use Rattle.views.specs.steps.Joined.{separated};
 
 use crate::day::Day;
-use crate::row::{DayCount, Days, Gaps, KindCount, Kinds, SourceGaps};
+use crate::row::{DayCount, Days, Gaps, Kinds, SourceGaps};
 use crate::view::{lent, lent_from};
 use attributes::{Batch, Sequenced, Text};
 use coverage::{Intervals, Summary};
@@ -22,7 +22,7 @@ use jiff_core::civil::Date;
 use json::Writer;
 use std::alloc::{AllocError, Global};
 
-/// Adds a line.
+/// Adds a line of an answer to a question.
 fn end_line(out: &mut String, text: &str) -> Result<(), AllocError>
     ensures { OnOk result (string_bytes out.new ≡ string_bytes out.old ++ line text.now) }
 {
@@ -30,7 +30,7 @@ fn end_line(out: &mut String, text: &str) -> Result<(), AllocError>
     out.push_str("\n")
 }
 
-/// The text of a summary, in a line.
+/// The line that answers the question `cover`: the text of a summary.
 pub(crate) fn print_cover(alloc: Global, summary: &Summary) -> Result<Text, AllocError>
     ensures { IfOk result (λ t. t ≡ cover_line summary.now) }
 {
@@ -39,7 +39,7 @@ pub(crate) fn print_cover(alloc: Global, summary: &Summary) -> Result<Text, Allo
     Ok(Text::from_string(out))
 }
 
-/// The canonical texts of events, one a line. Time and memory in proportion to them.
+/// Lines of answers: canonical texts of events, one a line. Time and memory in proportion to them.
 pub(crate) fn print_events(alloc: Global, events: &Batch) -> Result<Text, AllocError>
     ensures { IfOk result (λ t. t ≡ event_lines events.now) }
 {
@@ -50,7 +50,7 @@ pub(crate) fn print_events(alloc: Global, events: &Batch) -> Result<Text, AllocE
     Ok(Text::from_string(out))
 }
 
-/// The canonical texts of lent events, one a line. Time and memory in proportion to them.
+/// Canonical texts of events lent to an answer, one a line. Time and memory in proportion to them.
 pub(crate) fn print_lent(alloc: Global, events: &[&Sequenced]) -> Result<Text, AllocError>
     ensures { IfOk result (λ t. t ≡ event_lines (map (λ e. e.now) events.now)) }
 {
@@ -61,7 +61,7 @@ pub(crate) fn print_lent(alloc: Global, events: &[&Sequenced]) -> Result<Text, A
     Ok(Text::from_string(out))
 }
 
-/// Adds a text, with a comma before it unless it is the first.
+/// Adds a text to the line of an answer, with a comma before it unless it is the first.
 fn push_text(out: &mut String, is_first: bool, text: &str) -> Result<(), AllocError>
     ensures { OnOk result (string_bytes out.new
         ≡ string_bytes out.old ++ separated is_first text.now) }
@@ -72,7 +72,7 @@ fn push_text(out: &mut String, is_first: bool, text: &str) -> Result<(), AllocEr
     out.push_str(text)
 }
 
-/// Adds the canonical texts of events, joined by commas.
+/// Adds canonical texts, joined by commas, to the line of a conflict in an answer.
 fn push_texts(out: &mut String, events: &[&Sequenced]) -> Result<(), AllocError>
     ensures { OnOk result (string_bytes out.new
         ≡ string_bytes out.old ++ join_with_byte 44 (map text (map (λ e. e.now) events.now))) }
@@ -83,7 +83,7 @@ fn push_texts(out: &mut String, events: &[&Sequenced]) -> Result<(), AllocError>
     Ok(())
 }
 
-/// A text as a JSON string.
+/// A text as a JSON string in the line of an answer.
 fn string_text(alloc: Global, words: &str) -> Result<Text, AllocError>
     ensures { IfOk result (λ t. t ≡ string_text words.now) }
 {
@@ -93,8 +93,8 @@ fn string_text(alloc: Global, words: &str) -> Result<Text, AllocError>
     Ok(Text::from_string(text))
 }
 
-/// Adds the line of the conflict of events of a source and id. The canonical texts are added as
-/// they are.
+/// Adds to an answer the line of the conflict of events of a source and id. The canonical texts are
+/// added as they are.
 fn add_conflict(
     alloc: Global,
     out: &mut String,
@@ -121,8 +121,8 @@ fn add_conflict(
     Ok(())
 }
 
-/// For each conflict `{"events":[T1,T2,..],"id":ID,"source":SOURCE}` in a line. Time and memory in
-/// proportion to the texts.
+/// The lines that answer `conflicts`: for each `{"events":[T1,T2,..],"id":ID,"source":SOURCE}`.
+/// Time and memory in proportion to the texts.
 pub(crate) fn print_conflicts(alloc: Global, rows: &Conflicts) -> Result<Text, AllocError>
     ensures { IfOk result (λ t. t ≡ conflict_lines rows.now) }
 {
@@ -133,7 +133,7 @@ pub(crate) fn print_conflicts(alloc: Global, rows: &Conflicts) -> Result<Text, A
     Ok(Text::from_string(out))
 }
 
-/// Adds the line of a conflict.
+/// Adds the line of a conflict to the answer to `conflicts`.
 fn add_row(alloc: Global, out: &mut String, row: &Conflict) -> Result<(), AllocError>
     ensures { OnOk result (string_bytes out.new ≡ string_bytes out.old ++ conflict_line row.now) }
 {
@@ -141,8 +141,8 @@ fn add_row(alloc: Global, out: &mut String, row: &Conflict) -> Result<(), AllocE
     add_conflict(alloc, out, row.source.as_str(), row.id.as_str(), &events)
 }
 
-/// Adds the line of the conflict of the key of the event at place i, if that is the first of
-/// several.
+/// Adds to the answer to `conflicts` the line of the conflict of the key of the event at place i,
+/// if that is the first of several.
 fn add_conflict_at(alloc: Global, out: &mut String, inbox: &Inbox, i: u64) -> Result<(), AllocError>
     requires in_range { i < length (events inbox.now) }
     ensures line { OnOk result ((e : EventValue) → slice_get (events inbox.now) i ≡ Some e
@@ -175,7 +175,7 @@ pub(crate) fn print_conflicts_of(alloc: Global, inbox: &Inbox) -> Result<Text, A
     Ok(Text::from_string(out))
 }
 
-/// The text `["TYPE",N]`.
+/// The text `["TYPE",N]` of a line that answers `kinds`.
 fn kind_text(alloc: Global, kind: &str, count: u64) -> Result<Text, AllocError>
     ensures { IfOk result (λ t. t ≡ compact_text (kind_data kind.now count)) }
 {
@@ -188,26 +188,20 @@ fn kind_text(alloc: Global, kind: &str, count: u64) -> Result<Text, AllocError>
     Ok(Text::from_string(text))
 }
 
-/// Adds the line of a type.
-fn add_kind(alloc: Global, out: &mut String, row: &KindCount) -> Result<(), AllocError>
-    ensures { OnOk result (string_bytes out.new ≡ string_bytes out.old ++ kind_line row.now) }
-{
-    let text = kind_text(alloc, row.0.as_str(), row.1)?;
-    end_line(out, text.as_str())
-}
-
-/// For each row `["TYPE",N]` in a line.
+/// The lines that answer `kinds`: for each row `["TYPE",N]`.
 pub(crate) fn print_kinds(alloc: Global, kinds: &Kinds) -> Result<Text, AllocError>
     ensures { IfOk result (λ t. t ≡ kind_lines kinds.now) }
 {
     let mut out = String::new(alloc);
     for i in 0..kinds.len() {
-        add_kind(alloc, &mut out, kinds.at(i))?;
+        let row = kinds.at(i);
+        let text = kind_text(alloc, row.0.as_str(), row.1)?;
+        end_line(&mut out, text.as_str())?;
     }
     Ok(Text::from_string(out))
 }
 
-/// The date that has the day number.
+/// The date that has the day number by which `days` counts.
 fn date_of(day: Day) -> civil::Date
     ensures { epoch_day result ≡ day }
 {
@@ -215,7 +209,7 @@ fn date_of(day: Day) -> civil::Date
     civil::Date::from_plain(date)
 }
 
-/// The day as YYYY-MM-DD.
+/// The day as YYYY-MM-DD, as an answer to `days` prints it.
 fn day_text(alloc: Global, day: Day) -> Result<String, AllocError>
     ensures { IfOk result (λ t. IsDayText day (string_bytes t)) }
 {
@@ -223,7 +217,7 @@ fn day_text(alloc: Global, day: Day) -> Result<String, AllocError>
     Ok(format!(in alloc; "{date}")?)
 }
 
-/// The text `["TYPE","YYYY-MM-DD",N]`.
+/// The text `["TYPE","YYYY-MM-DD",N]` of a line that answers `days`.
 fn day_row_text(alloc: Global, kind: &str, day: &str, count: u64) -> Result<Text, AllocError>
     ensures { IfOk result (λ t. t ≡ compact_text (day_data kind.now day.now count)) }
 {
@@ -237,7 +231,7 @@ fn day_row_text(alloc: Global, kind: &str, day: &str, count: u64) -> Result<Text
     Ok(Text::from_string(text))
 }
 
-/// Adds the line of a type and a day.
+/// Adds the line of a type and a day to the answer to `days`.
 fn add_day(alloc: Global, out: &mut String, row: &DayCount) -> Result<(), AllocError>
     ensures { OnOk result ((l : List ℕ) × IsDayLine row.now l
         × (string_bytes out.new ≡ string_bytes out.old ++ l)) }
@@ -247,7 +241,7 @@ fn add_day(alloc: Global, out: &mut String, row: &DayCount) -> Result<(), AllocE
     end_line(out, text.as_str())
 }
 
-/// For each row `["TYPE","YYYY-MM-DD",N]` in a line.
+/// The lines that answer `days`: for each row `["TYPE","YYYY-MM-DD",N]`.
 pub(crate) fn print_days(alloc: Global, days: &Days) -> Result<Text, AllocError>
     ensures { IfOk result (AreDayLines days.now) }
 {
@@ -258,7 +252,7 @@ pub(crate) fn print_days(alloc: Global, days: &Days) -> Result<Text, AllocError>
     Ok(Text::from_string(out))
 }
 
-/// The text `["SOURCE",[[a,b],..]]`.
+/// The text `["SOURCE",[[a,b],..]]` of a line that answers `gaps`.
 fn gap_text(alloc: Global, source: &str, missing: &Intervals) -> Result<Text, AllocError>
     ensures { IfOk result (λ t. t ≡ compact_text (gap_data (source.now, missing.now))) }
 {
@@ -273,7 +267,7 @@ fn gap_text(alloc: Global, source: &str, missing: &Intervals) -> Result<Text, Al
     Ok(Text::from_string(text))
 }
 
-/// Adds the line of a source with its gaps.
+/// Adds the line of a source with its gaps to the answer to `gaps`.
 fn add_gap(alloc: Global, out: &mut String, row: &SourceGaps) -> Result<(), AllocError>
     ensures { OnOk result (string_bytes out.new ≡ string_bytes out.old ++ gap_line row.now) }
 {
@@ -281,7 +275,7 @@ fn add_gap(alloc: Global, out: &mut String, row: &SourceGaps) -> Result<(), Allo
     end_line(out, text.as_str())
 }
 
-/// For each row `["SOURCE",[[a,b],..]]` in a line.
+/// The lines that answer `gaps`: for each row `["SOURCE",[[a,b],..]]`.
 pub(crate) fn print_gaps(alloc: Global, gaps: &Gaps) -> Result<Text, AllocError>
     ensures { IfOk result (λ t. t ≡ gap_lines gaps.now) }
 {

@@ -13,9 +13,9 @@ use coverage::{Intervals, Summary};
 use inbox::Inbox;
 use std::alloc::{AllocError, Global};
 
-/// The numbers of all events, for each source, as a summary of version 1. Time in proportion to the
-/// events, times the logarithm of the sources and of the intervals of a source; in key order a
-/// source is copied once.
+/// The answer to `cover`: the numbers of all events, for each source, as a summary of version 1.
+/// Time in proportion to the events, times the logarithm of the sources and of the intervals of a
+/// source; in key order a source is copied once.
 pub(crate) fn sum_numbers(alloc: Global, inbox: &Inbox) -> Result<Summary, AllocError>
     ensures { IfOk result (Sums (events inbox.now)) }
 {
@@ -29,7 +29,7 @@ pub(crate) fn sum_numbers(alloc: Global, inbox: &Inbox) -> Result<Summary, Alloc
     Ok(summary)
 }
 
-/// The words as a text of its own: the one at hand where they are equal, and else a copy.
+/// A source's words as a text of its own: the one at hand where they are equal, and else a copy.
 fn text_of(alloc: Global, at_hand: Text, words: &str) -> Result<Text, AllocError>
     ensures { IfOk result (λ text. text ≡ words.now) }
 {
@@ -39,8 +39,8 @@ fn text_of(alloc: Global, at_hand: Text, words: &str) -> Result<Text, AllocError
     Text::of(alloc, words)
 }
 
-/// The numbers that are missing below the greatest of each source, for the sources that lack any,
-/// in byte order. Time as for `sum_numbers`.
+/// The answer to `gaps`: the numbers missing below the greatest of each source, for the sources
+/// that lack any, in byte order. Time as for `sum_numbers`.
 pub(crate) fn find_gaps(alloc: Global, inbox: &Inbox) -> Result<Gaps, AllocError>
     ensures { IfOk result (AreGaps (events inbox.now)) }
 {
@@ -49,7 +49,7 @@ pub(crate) fn find_gaps(alloc: Global, inbox: &Inbox) -> Result<Gaps, AllocError
     Ok(gaps_of(alloc, &entries)?)
 }
 
-/// What sources lack of their numbers, without those that lack nothing.
+/// The rows of `gaps`: what sources lack of their numbers, without those that lack nothing.
 fn gaps_of(alloc: Global, entries: &[(&str, &Intervals)]) -> Result<Gaps, AllocError>
     ensures { IfOk result (AreGapsOf (map deref_pair entries.now)) }
 {
@@ -60,7 +60,7 @@ fn gaps_of(alloc: Global, entries: &[(&str, &Intervals)]) -> Result<Gaps, AllocE
     Ok(rows)
 }
 
-/// Adds a source with what is missing of its numbers, if anything is.
+/// Adds a source to the answer to `gaps` with its missing numbers, if any is missing.
 fn add_gaps(
     alloc: Global,
     rows: &mut Gaps,

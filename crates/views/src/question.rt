@@ -18,7 +18,7 @@ use coverage::Summary;
 use inbox::{Conflicts, Inbox};
 use std::alloc::{AllocError, Global};
 
-/// The answer about no events. It takes no memory.
+/// The answer to a question about a set without events. It takes no memory.
 fn empty_answer(alloc: Global, query: Query) -> Answer
     ensures query { query_of result ≡ query }
     ensures answer { IsTrueOf [] result }
@@ -60,7 +60,7 @@ pub fn answer(alloc: Global, inbox: &Inbox, query: Query) -> Result<Answer, Allo
     }
 }
 
-/// Whether an answer has no lines.
+/// Whether an answer to a question has no lines.
 fn is_silent(answer: &Answer) -> bool
     ensures { IsTrue result ↔ AreLines answer.now [] }
 {
@@ -75,8 +75,8 @@ fn is_silent(answer: &Answer) -> bool
     }
 }
 
-/// The answer in lines that end with LF; an answer without lines is the empty text. Time and memory
-/// in proportion to the text. `AllocError` where memory is refused.
+/// The answer to a question in lines that end with LF; without lines, the empty text. Time and
+/// memory in proportion to the text. `AllocError` where memory is refused.
 pub fn print(alloc: Global, answer: &Answer) -> Result<Text, AllocError>
     ensures lines { IfOk result (AreLines answer.now) }
 

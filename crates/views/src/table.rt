@@ -5,7 +5,6 @@ ghost use Rattle.std.specs.BTreeMap.{get, insert_entry};
 ghost use Rattle.std.specs.Cmp.{IsTotalOrder};
 ghost use Rattle.std.specs.Option.{option_and_then, option_copied, option_map_or};
 ghost use Rattle.std.specs.Ordering.{is_lt};
-ghost use Rattle.attributes.specs.Bytes.{byte_cmp};
 ghost use Rattle.attributes.specs.Event.{EventValue, kind_of};
 ghost use Rattle.inbox.specs.Kept.{events};
 ghost use Rattle.inbox.specs.Shown.{is_shown, shown};
@@ -19,8 +18,8 @@ use inbox::Inbox;
 use std::alloc::{AllocError, Global};
 use std::collections::BTreeMap;
 
-/// Counts the key once more. Time logarithmic in the keys; one search where the key is there.
-fn count<K: Ord + Drop>(table: &mut BTreeMap<K, u64>, key: K) -> Result<(), AllocError>
+/// Counts an answer's key once more. Time logarithmic in the keys; one search if it is there.
+pub(crate) fn count<K: Ord + Drop>(table: &mut BTreeMap<K, u64>, key: K) -> Result<(), AllocError>
     requires ordered { IsTotalOrder K.cmp }
     requires fits { option_map_or (λ n. n) (get K.cmp table.old key) 0 + 1 < 2 ^ 64 }
     ensures { OnOk result (table.new.entries ≡ insert_entry K.cmp table.old.entries key
@@ -34,8 +33,8 @@ fn count<K: Ord + Drop>(table: &mut BTreeMap<K, u64>, key: K) -> Result<(), Allo
     Ok(())
 }
 
-/// The type of the event at a place of key order, where there is one.
-fn kind_at(inbox: &Inbox, i: u64) -> Option<&str>
+/// The type, for `kinds`, of the set's event at a place of key order, where there is one.
+pub(crate) fn kind_at(inbox: &Inbox, i: u64) -> Option<&str>
     ensures { option_copied result ≡ option_map kind_of (slice_get (events inbox.now) i) }
 {
     if i < inbox.len() {
@@ -45,30 +44,7 @@ fn kind_at(inbox: &Inbox, i: u64) -> Option<&str>
     }
 }
 
-/// How many of the shown events have each type. Goes over the events once.
-pub(crate) fn by_kind<'a>(
-    alloc: Global,
-    inbox: &'a Inbox,
-) -> Result<BTreeMap<&'a str, u64>, AllocError>
-    ensures { IfOk result (λ table. map (λ e. (e.0.now, e.1)) table.entries
-        ≡ tally byte_cmp (map kind_of (shown (events inbox.now)))) }
-{
-    let mut table = BTreeMap::new(alloc);
-    let mut ahead = kind_at(inbox, 0);
-    for i in 0..inbox.len() {
-        // The next event is found before this one's text is read: memory is asked for both at once.
-        let found = ahead;
-        ahead = kind_at(inbox, i + 1);
-        if let Some(kind) = found {
-            if inbox.is_shown(i) {
-                count(&mut table, kind)?;
-            }
-        }
-    }
-    Ok(table)
-}
-
-/// The type and the day of the event at a place of key order, where there is one with a time.
+/// For `days`: type and day of the event at a place of key order, where there is one with a time.
 fn kind_and_day_at(inbox: &Inbox, i: u64) -> Option<(&str, Day)>
     ensures { option_map (λ k. (k.0.now, k.1)) result
         ≡ option_and_then kind_and_day (slice_get (events inbox.now) i) }
@@ -83,7 +59,7 @@ fn kind_and_day_at(inbox: &Inbox, i: u64) -> Option<(&str, Day)>
     }
 }
 
-/// Whether the event at a place of key order is shown and has a time.
+/// Whether the event at a place of key order is shown and has a time, so that `days` counts it.
 fn is_timed(inbox: &Inbox, i: u64) -> bool
     requires { i < length (events inbox.now) }
     ensures { (e : EventValue) → slice_get (events inbox.now) i ≡ Some e
@@ -92,8 +68,8 @@ fn is_timed(inbox: &Inbox, i: u64) -> bool
     kind_and_day_at(inbox, i).is_some() && inbox.is_shown(i)
 }
 
-/// Whether a shown event has a time. Goes over the events up to the first such one, and takes no
-/// memory.
+/// Whether a shown event has a time, so that `days` counts any. Goes over the events up to the
+/// first such one, and takes no memory.
 pub(crate) fn has_time(inbox: &Inbox) -> bool
     ensures some { IsTrue result → HasTime (events inbox.now) }
     ensures none { result ≡ false → days (events inbox.now) ≡ [] }
@@ -106,7 +82,7 @@ pub(crate) fn has_time(inbox: &Inbox) -> bool
     false
 }
 
-/// How many of the shown events that have a time have each type and day. Goes over the events once.
+/// The table of `days`: how many shown events with a time have each type and day, in one pass.
 pub(crate) fn by_day<'a>(
     alloc: Global,
     inbox: &'a Inbox,
@@ -129,7 +105,7 @@ pub(crate) fn by_day<'a>(
     Ok(table)
 }
 
-/// Whether the event comes before the other by number, then id.
+/// Whether the event comes before the other by number, then id, as `latest` compares them.
 fn is_earlier(event: &Sequenced, other: &Sequenced) -> bool
     ensures { result ≡ is_lt (number_cmp event.now other.now) }
 {
@@ -139,7 +115,7 @@ fn is_earlier(event: &Sequenced, other: &Sequenced) -> bool
         .is_lt()
 }
 
-/// The later of two events, the one at hand where they tie.
+/// The later of two events for the question `latest`, the one at hand where they tie.
 fn later<'a>(before: Option<&'a Sequenced>, event: &'a Sequenced) -> &'a Sequenced
     ensures { result.now ≡ greater number_cmp (option_copied before.entry) event.now }
 {
@@ -155,7 +131,7 @@ fn later<'a>(before: Option<&'a Sequenced>, event: &'a Sequenced) -> &'a Sequenc
     }
 }
 
-/// The latest of the events of each source and subject.
+/// The table of the question `latest`: the latest event of each source and subject.
 pub(crate) fn by_entity<'a>(
     alloc: Global,
     list: &[&'a Sequenced],

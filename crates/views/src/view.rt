@@ -8,13 +8,13 @@ ghost use Rattle.views.specs.Tally.{HasTime, days, kinds};
 
 use crate::day::Day;
 use crate::row::{Days, Kinds};
-use crate::table::{by_day, by_entity, by_kind, has_time};
+use crate::table::{by_day, by_entity, count, has_time, kind_at};
 use attributes::{Batch, Sequenced, Text};
 use inbox::Inbox;
 use std::alloc::{AllocError, Global};
 use std::collections::BTreeMap;
 
-/// The shown events, in key order, lent.
+/// The shown events of a set, in key order, lent to an answer.
 pub(crate) fn shown_events<'a>(
     alloc: Global,
     inbox: &'a Inbox,
@@ -30,16 +30,27 @@ pub(crate) fn shown_events<'a>(
     Ok(list)
 }
 
-/// How many shown events have each type, the types in byte order. Time in proportion to the events,
-/// times the logarithm of their number; a type is copied once.
+/// The rows of `kinds`: how many shown events have each type, in byte order. Time in proportion to
+/// the events, times the logarithm of their number; a type is copied once.
 pub(crate) fn count_kinds(alloc: Global, inbox: &Inbox) -> Result<Kinds, AllocError>
     ensures { IfOk result (λ rows. rows ≡ kinds (events inbox.now)) }
 {
-    let table = by_kind(alloc, inbox)?;
+    let mut table = BTreeMap::new(alloc);
+    let mut ahead = kind_at(inbox, 0);
+    for i in 0..inbox.len() {
+        // The next event is found before this one's text is read: memory is asked for both at once.
+        let found = ahead;
+        ahead = kind_at(inbox, i + 1);
+        if let Some(kind) = found {
+            if inbox.is_shown(i) {
+                count(&mut table, kind)?;
+            }
+        }
+    }
     Ok(listed_kinds(alloc, &table)?)
 }
 
-/// The rows of a table of types.
+/// The rows of the answer to `kinds` that a table of types has.
 fn listed_kinds(alloc: Global, table: &BTreeMap<&str, u64>) -> Result<Kinds, AllocError>
     ensures { IfOk result (λ rows. rows ≡ map (λ e. (e.0.now, e.1)) table.now.entries) }
 {
@@ -50,8 +61,8 @@ fn listed_kinds(alloc: Global, table: &BTreeMap<&str, u64>) -> Result<Kinds, All
     Ok(rows)
 }
 
-/// How many shown events with a time have each type and UTC day, by type, then day. Time as for
-/// `count_kinds`.
+/// The rows of `days`: how many shown events with a time have each type and UTC day, by type, then
+/// day. Time as for `count_kinds`.
 pub(crate) fn count_days(alloc: Global, inbox: &Inbox) -> Result<Days, AllocError>
     ensures rows { IfOk result (λ rows. rows ≡ days (events inbox.now)) }
     ensures err { OnErr result (HasTime (events inbox.now)) }
@@ -63,7 +74,7 @@ pub(crate) fn count_days(alloc: Global, inbox: &Inbox) -> Result<Days, AllocErro
     Ok(listed_days(alloc, &table)?)
 }
 
-/// The rows of a table of types and days.
+/// The rows of the answer to `days` that a table of types and days has.
 fn listed_days(alloc: Global, table: &BTreeMap<(&str, Day), u64>) -> Result<Days, AllocError>
     ensures { IfOk result (λ rows. rows ≡ map (λ e. ((e.0.0.now, e.0.1), e.1)) table.now.entries) }
 {
@@ -74,7 +85,7 @@ fn listed_days(alloc: Global, table: &BTreeMap<(&str, Day), u64>) -> Result<Days
     Ok(rows)
 }
 
-/// The events of a batch, lent.
+/// The events of a batch, lent to the lines of an answer.
 pub(crate) fn lent(alloc: Global, batch: &Batch) -> Result<Vec<&Sequenced>, AllocError>
     ensures { IfOk result (λ list. map (λ e. e.now) list.items ≡ batch.now) }
 {
@@ -85,7 +96,7 @@ pub(crate) fn lent(alloc: Global, batch: &Batch) -> Result<Vec<&Sequenced>, Allo
     Ok(list)
 }
 
-/// The n events from place i on, lent.
+/// The n events of a batch from place i on, lent to the lines of an answer.
 pub(crate) fn lent_from<'a>(
     alloc: Global,
     inbox: &'a Inbox,
@@ -105,8 +116,8 @@ pub(crate) fn lent_from<'a>(
     Ok(list)
 }
 
-/// The latest shown event of each source and subject, by source, then subject, lent. Time as for
-/// `count_kinds`.
+/// What answers `latest`: the latest shown event of each source and subject, by source, then
+/// subject, lent. Time as for `count_kinds`.
 pub(crate) fn latest_events<'a>(
     alloc: Global,
     inbox: &'a Inbox,
@@ -118,7 +129,7 @@ pub(crate) fn latest_events<'a>(
     Ok(latest_in_order(alloc, &table)?)
 }
 
-/// The latest events that a table by source and subject has, in its order.
+/// The latest events that the question's table by source and subject has, in its order.
 fn latest_in_order<'a>(
     alloc: Global,
     table: &BTreeMap<(&'a str, &'a str), &'a Sequenced>,
@@ -133,8 +144,8 @@ fn latest_in_order<'a>(
     Ok(list)
 }
 
-/// Copies of the latest shown events. Time as for `latest_events`, and in proportion to the events
-/// that are copied.
+/// The answer to `latest`: copies of the latest shown events. Time as for `latest_events`, and in
+/// proportion to the events that are copied.
 pub(crate) fn find_latest(alloc: Global, inbox: &Inbox) -> Result<Batch, AllocError>
     ensures { IfOk result (λ batch. batch ≡ latest (events inbox.now)) }
 {
@@ -142,7 +153,7 @@ pub(crate) fn find_latest(alloc: Global, inbox: &Inbox) -> Result<Batch, AllocEr
     copied(alloc, &latest)
 }
 
-/// Copies of lent events.
+/// Copies of lent events, for an answer of its own.
 fn copied(alloc: Global, list: &[&Sequenced]) -> Result<Batch, AllocError>
     ensures { IfOk result (λ batch. batch ≡ map (λ e. e.now) list.now) }
 {

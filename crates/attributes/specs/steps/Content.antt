@@ -5,12 +5,12 @@ use Rattle.attributes.specs.Exact.{IsExact}
 use Rattle.attributes.specs.declared.content.Content.{Content}
 use Rattle.attributes.specs.declared.content.Content.TheVariants as content
 
--- the bytes are numbers below 256
+-- the bytes of an event's data are numbers below 256
 abbrev pub HoldsBytes : Content → Type 0
 HoldsBytes (content.Bytes b) = IsBytes b
 HoldsBytes _ = ⊤
 
--- a tree that some JSON text has, or bytes
+-- an event's data is a tree that some JSON text has, or bytes
 abbrev pub HoldsExact : Content → Type 0
 HoldsExact content.Nothing = ⊤
 HoldsExact (content.Tree d) = IsExact d

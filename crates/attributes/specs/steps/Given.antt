@@ -6,19 +6,19 @@ use Rattle.attributes.specs.declared.scalar.Scalar.TheVariants as scalar
 use Rattle.attributes.specs.declared.scalar.Given.{Given}
 use Rattle.attributes.specs.declared.scalar.Given.TheVariants as given
 
--- what is given, as an attribute
+-- what is given for an attribute, as the attribute
 abbrev pub lent_of : Given → Option Scalar
 lent_of (given.Flag b) = Some (scalar.Flag b)
 lent_of (given.Whole z) = Some (scalar.Whole z)
 lent_of (given.Words t) = Some (scalar.Words t)
 lent_of given.Other = None
 
--- what is given, where it is a text
+-- what is given for an attribute, where it is a text
 abbrev pub given_words : Option Given → Option (List ℕ)
 given_words (Some (given.Words t)) = Some t
 given_words _ = None
 
--- where something is given, it may be an attribute
+-- where something is given for an attribute's name, it may be an attribute
 abbrev pub is_allowed_value : Option Given → Bool
 is_allowed_value None = true
 is_allowed_value (Some g) = is_attribute g

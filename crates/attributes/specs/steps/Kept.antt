@@ -12,43 +12,43 @@ use Rattle.attributes.specs.declared.content.Kept.{Kept}
 use Rattle.attributes.specs.declared.content.Kept.TheVariants as kept
 use Rattle.attributes.specs.declared.body.Body.{Body}
 
--- what is kept of a content
+-- what is kept of an event's content
 abbrev pub kept_of : Content → Kept
 kept_of content.Nothing = kept.Nothing
 kept_of (content.Tree d) = kept.Json
 kept_of (content.Bytes b) = kept.Bytes b
 
--- the tree that was read
+-- the tree of an event's data that was read
 abbrev pub tree_of_read : Option Data → Data
 tree_of_read (Some d) = d
 tree_of_read None = null
 
--- what is carried, by the payload's text and by what is kept
+-- what an event carries, by the payload's text and by what is kept
 abbrev pub content_in : List ℕ → Kept → Content
 content_in payload kept.Nothing = content.Nothing
 content_in payload kept.Json = content.Tree (tree_of_read (read payload))
 content_in payload (kept.Bytes b) = content.Bytes b
 
--- the payload's text is that of the tree, where the content is one
+-- the payload's text is that of the data's tree, where the event's content is one
 abbrev pub TellsTree : List ℕ → Content → Type 0
 TellsTree payload content.Nothing = ⊤
 TellsTree payload (content.Tree d) = payload ≡ compact_text d
 TellsTree payload (content.Bytes b) = ⊤
 
--- the text of an event
+-- the kept bytes are the canonical text of an event
 pub record KeepsText (e : EventValue) (kept : List ℕ) : Type 0 where
   pub event : IsEvent e
   pub is_text : kept ≡ text e
 
--- the event whose attributes a body shows, with this content
+-- the event whose attributes its kept body shows, with this content
 abbrev pub event_with : Body → Content → EventValue
 event_with b c = view_of (attributes_in b) c
 
--- the event that is kept
+-- the event whose text and places are kept
 abbrev pub event_kept : Body → Kept → EventValue
 event_kept b k = event_with b (content_in (payload_in b) k)
 
--- its text, places in it, its key, its type, and the day of its time
+-- an event is kept as its text, places in it, its key, its type, and the day of its time
 pub record IsKept (b : Body) (c : Content) (day : Option ℤ) : Type 0 where
   pub text : KeepsText (event_with b c) (text_of b)
   pub body : IsBody b

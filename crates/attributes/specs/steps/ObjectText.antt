@@ -9,45 +9,45 @@ use Rattle.attributes.specs.declared.body.Draft.{Draft}
 use Rattle.attributes.specs.declared.content.Content.{Content}
 use Rattle.attributes.specs.declared.content.Content.TheVariants as content
 
--- the members of one object, then those of another
+-- the members of one object of an event, then those of another
 abbrev pub then_members : Members → Members → Members
 then_members no_members ns = ns
 then_members (member k d ms) ns = member k d (then_members ms ns)
 
--- the text of an object, so far, with these members behind it and closed
+-- an event's text, so far, with these members behind it and closed
 abbrev pub onto : List ℕ → Members → List ℕ
 onto out ms = out ++ members_text (nat_lt 1 (length out)) ms
 
--- the text of a draft, with these members behind it and closed
+-- the text of an event's draft, with these members behind it and closed
 abbrev pub with_members : Draft → Members → List ℕ
 with_members draft ms = onto (string_bytes draft.text) ms
 
--- a text between quotation marks, as it is
+-- an attribute's text between quotation marks, as it is
 abbrev pub marked : List ℕ → List ℕ
 marked text = 34 ∷ (text ++ 34 ∷ [])
 
--- a comma, where a member stands before
+-- a comma in a canonical text, where a member stands before
 abbrev pub comma_behind : List ℕ → List ℕ
 comma_behind out = comma_if (nat_lt 1 (length out))
 
--- a name behind a text: a comma where a member stands before, the name in JSON, and a colon
+-- an attribute's name behind a text: a comma where a member stands before, its JSON, a colon
 abbrev pub name_behind : List ℕ → List ℕ → List ℕ
 name_behind out name = comma_behind out ++ (quoted name ++ 58 ∷ [])
 
--- a key: a quotation mark, the source, a mark, the id, a mark
+-- an event's key: a quotation mark, the source, a mark, the id, a mark
 abbrev pub key_text : List ℕ → List ℕ → List ℕ
 key_text source id = marked source ++ (id ++ 34 ∷ [])
 
--- the text is the JSON of the value, where its member waits
+-- the text is the JSON of the payload's value, where its member waits
 abbrev pub IsWaiting : Bool → List ℕ → Data → Type 0
 IsWaiting waiting json d = waiting ≡ true → json ≡ compact_text d
 
--- the members, with one more where it still waits
+-- the members of a canonical text, with the payload where it still waits
 abbrev pub pending : Bool → List ℕ → Data → Members → Members
 pending true k d ms = put k d ms
 pending false k d ms = ms
 
--- whether a content is a member, its name, and the text of its value
+-- whether an event's content is a member, its name, and the text of its value
 abbrev pub IsPayload : Content → Bool → List ℕ → List ℕ → Type 0
 IsPayload content.Nothing there name json = there ≡ false
 IsPayload (content.Tree d) there name json =

@@ -2,7 +2,7 @@
 use Rattle.std.specs.Prelude.{◌≡◌, ◌≤◌, true, ℕ, List, length}
 use Rattle.attributes.specs.Time.{are_digits_at}
 
--- what has the shape of a time is long enough and has these digits
+-- an attribute with the shape of a time is long enough and has these digits
 pub record IsShaped (t : List ℕ) : Type 0 where
   pub long : 20 ≤ length t
   pub century : are_digits_at t 0 ≡ true

@@ -5,7 +5,7 @@ use Rattle.std.specs.String.{string_bytes}
 use Rattle.std.specs.declared.string.String.{String}
 use Rattle.block_digests.specs.Kept.{KeptBlocks, KeptBlock, position_of}
 
--- sources, each with the numbers of its blocks and where they stand
+-- the index of kept digests: sources, each with the numbers of its blocks and where they stand
 abbrev pub Index : Type 0 → Type 0
 Index Y = BTreeMap (String Y) (BTreeMap ℕ ℕ)
 

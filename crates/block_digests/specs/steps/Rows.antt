@@ -8,15 +8,15 @@ use Rattle.inbox.specs.Ordered.{in_order}
 use Rattle.block_digests.specs.Block.{is_in_block}
 use Rattle.block_digests.specs.Number.{number_or_0}
 
--- a number and a text
+-- a row of a block's text: a number and a text
 abbrev pub NumberedText : Type 0
 NumberedText = ℕ × List ℕ
 
--- by number, then text
+-- a block's rows: by number, then text
 abbrev pub numbered_text_cmp : NumberedText → NumberedText → Ordering
 numbered_text_cmp r s = ordering_then (nat_cmp r.0 s.0) (byte_cmp r.1 s.1)
 
--- the number and the text of an event
+-- the row of a block's event: its number and its text
 abbrev pub numbered_text_of : EventValue → NumberedText
 numbered_text_of e = (number_or_0 e, text e)
 

@@ -13,15 +13,15 @@ use Rattle.inbox.specs.Sets.{set_of}
 use Rattle.block_digests.specs.Digest.{digest_in}
 use Rattle.coverage.specs.BlockDigests.{Blocks, SourceBlocks, block_digest, blocks_of}
 
--- the digests of a source, with the bytes of the source
+-- a summary's digests of a source, with the bytes of the source
 abbrev pub blocks_entry : {Y : Type 0} → String Y × BTreeMap ℕ (List ℕ) → List ℕ × Blocks
 blocks_entry e = (string_bytes e.0, e.1.entries)
 
--- the entries with the bytes of their sources
+-- a summary's entries of digests with the bytes of their sources
 abbrev pub blocks_in : {Y : Type 0} → List (String Y × BTreeMap ℕ (List ℕ)) → SourceBlocks
 blocks_in es = map blocks_entry es
 
--- digests of the blocks of the set of A, and no source without one, in byte order
+-- a summary's digests of the blocks of the set of A, and no source without one, in byte order
 pub record AreDigestsIn (A : List EventValue) (ds : SourceBlocks) : Type 0 where
   pub found : (source : List ℕ) (k : ℕ)
       → block_digest (blocks_of ds source) k ≡ digest_in (set_of A) source k

@@ -5,10 +5,10 @@ use Rattle.std.specs.declared.string.String.{String}
 use Rattle.coverage.specs.Intervals.{Interval}
 use Rattle.coverage.specs.Numbers.{Entry, Entries}
 
--- an entry with the bytes of its source
+-- a summary's entry with the bytes of its source
 abbrev pub entry_in : {Y : Type 0} → String Y × List Interval → Entry
 entry_in e = (string_bytes e.0, e.1)
 
--- the entries with the bytes of their sources
+-- a summary's entries with the bytes of their sources
 abbrev pub sources_in : {Y : Type 0} → List (String Y × List Interval) → Entries
 sources_in es = map entry_in es

@@ -9,24 +9,24 @@ use Rattle.coverage.specs.BlockDigests.{Blocks, IsDigest, SourceBlocks, block_di
 use Rattle.coverage.specs.Intervals.{Interval, holds}
 use Rattle.coverage.specs.Numbers.{Entries}
 
--- the intervals hold a number of the block
+-- a summary's intervals hold a number of the block
 abbrev pub HoldsIn : List Interval → ℕ → Type 0
 HoldsIn ps k = (n : ℕ) × ((holds ps n ≡ true) × (block_of n ≡ k))
 
--- just the blocks that hold a number of the intervals
+-- just the blocks that hold a number of a summary's intervals
 abbrev pub AreJust : List Interval → Blocks → Type 0
 AreJust ps bs = (k : ℕ) → IsTrue (is_some (block_digest bs k)) ↔ HoldsIn ps k
 
--- digests of blocks, which ascend
+-- a summary's digests of blocks, which ascend
 abbrev pub AreAscending : Blocks → Type 0
 AreAscending bs =
     IsStrictlySortedBy nat_cmp (keys_of bs) × AllByRecursion (λ d. IsDigest d.1) bs
 
--- digests of just the blocks of the intervals
+-- a summary's digests of just the blocks of the intervals
 abbrev pub Fits : List Interval → Blocks → Type 0
 Fits ps bs = AreAscending bs × AreJust ps bs
 
--- the same sources, each with digests that fit its intervals
+-- the same sources of a summary, each with digests that fit its intervals
 abbrev pub AllFit : Entries → SourceBlocks → Type 0
 AllFit [] [] = Unit {0}
 AllFit [] (d ∷ ds) = ⊥

@@ -5,7 +5,7 @@ use Rattle.std.specs.Map.{lookup}
 use Rattle.std.specs.BTreeMap.{is_at}
 use Rattle.coverage.specs.Numbers.{byte_cmp}
 
--- at each source stands what the one list has there, or else what the other has
+-- at each source stands what the one summary has there, or else what the other has
 abbrev pub IsJoinOf : {X : Type 0} → List (List ℕ × X) → List (List ℕ × X) → List (List ℕ × X)
     → Type 0
 IsJoinOf both own other =

@@ -2,11 +2,11 @@
 use Rattle.std.specs.Prelude.{◌≡◌, ℕ, ◌<◌, ◌≤◌, true, false, List}
 use Rattle.coverage.specs.Intervals.{Interval, holds}
 
--- no number from this one on is held
+-- the intervals hold no number from this one on
 abbrev pub NoneFrom : List Interval → ℕ → Type 0
 NoneFrom ps from = (n : ℕ) → from ≤ n → holds ps n ≡ false
 
--- each number of the interval is held, and none before it from this one on
+-- a set's intervals hold each number of the interval, and none before it from this one on
 pub record IsRunFrom (ps : List Interval) (from : ℕ) (p : Interval) : Type 0 where
   pub later : from ≤ p.0
   pub rises : p.0 ≤ p.1

@@ -5,11 +5,11 @@ use Rattle.std.specs.Map.{lookup}
 use Rattle.std.specs.BTreeMap.{is_at}
 use Rattle.coverage.specs.Intervals.{Interval}
 
--- the last number of the interval that starts at the number
+-- of a set's intervals, the last number of the one that starts at the number
 abbrev pub found : ℕ → List Interval → Option ℕ
 found q ps = lookup (is_at (nat_cmp q)) ps
 
--- no interval starts at the number or before
+-- none of a set's intervals starts at the number or before
 abbrev pub NoneUpTo : List Interval → ℕ → Type 0
 NoneUpTo ps n = (a : ℕ) → a ≤ n → found a ps ≡ None
 
@@ -23,6 +23,6 @@ unfoldable pub last_start_or : ℕ → List Interval → ℕ
 last_start_or n [] = n
 last_start_or n (p ∷ ps) = last_start_or p.0 ps
 
--- the last interval starts no later than the number
+-- the last interval of a set starts no later than the number
 abbrev pub StartsAtMost : List Interval → ℕ → Type 0
 StartsAtMost ps n = last_start_or 0 ps ≤ n

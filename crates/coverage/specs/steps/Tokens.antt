@@ -7,26 +7,26 @@ use Rattle.json.specs.Token.{string}
 use Rattle.coverage.specs.BlockDigests.{Blocks, SourceBlocks}
 use Rattle.coverage.specs.Numbers.{Entry, Entries}
 
--- a source, and then the array of its intervals
+-- the JSON tokens of a summary's source, and then of the array of its intervals
 abbrev pub entry_tokens : Entry → List Token
 entry_tokens e = key e.0 ∷ begin_array ∷ (intervals_tokens e.1 ++ end_array ∷ [])
 
--- one entry after the other
+-- the JSON tokens of a summary's entries, one after the other
 abbrev pub sources_tokens : Entries → List Token
 sources_tokens [] = []
 sources_tokens (e ∷ es) = entry_tokens e ++ sources_tokens es
 
--- arrays of the number and the digest of blocks
+-- the JSON tokens of arrays of the number and the digest of blocks
 abbrev pub blocks_tokens : Blocks → List Token
 blocks_tokens [] = []
 blocks_tokens (b ∷ bs) =
     begin_array ∷ number (decimal b.0) ∷ string (encode_lower b.1) ∷ end_array ∷ blocks_tokens bs
 
--- a source, and then the array of its blocks
+-- the JSON tokens of a summary's source, and then of the array of its blocks
 abbrev pub digest_tokens : List ℕ × Blocks → List Token
 digest_tokens d = key d.0 ∷ begin_array ∷ (blocks_tokens d.1 ++ end_array ∷ [])
 
--- one source with its blocks after the other
+-- the JSON tokens of a summary's sources with their blocks, one after the other
 abbrev pub digests_tokens : SourceBlocks → List Token
 digests_tokens [] = []
 digests_tokens (d ∷ ds) = digest_tokens d ++ digests_tokens ds

@@ -10,9 +10,9 @@ use super::{SourceDigests, copy_blocks};
 use std::alloc::AllocError;
 
 impl SourceDigests {
-    /// What both tell, each source whole: the own blocks where it stands here, and else the
-    /// other's. Time and memory linear in the sources and the blocks of both, but for a logarithm
-    /// in the time.
+    /// What both summaries' digests tell, each source whole: the own blocks where it stands here,
+    /// and else the other's. Time and memory linear in the sources and the blocks of both, but for
+    /// a logarithm in the time.
     pub fn join(&self, other: &SourceDigests) -> Result<SourceDigests, AllocError>
         ensures joined { IfOk result (λ r. IsJoinOf r self.now other.now) }
         ensures order { IsStrictlySortedBy byte_cmp (keys_of self.now)
@@ -32,7 +32,7 @@ impl SourceDigests {
         Ok(both)
     }
 
-    /// Whether the source has digests. Time logarithmic in the sources.
+    /// Whether the summary has digests of the source. Time logarithmic in the sources.
     fn has(&self, source: &str) -> bool
         ensures { result ≡ is_some (lookup (is_at (byte_cmp source.now)) self.now) }
     {

@@ -19,7 +19,7 @@ use serde_json::Value;
 use std::alloc::{AllocError, Global};
 use std::collections::BTreeMap;
 
-/// The digest of which this is the text in hexadecimal digits, of either case.
+/// The digest in a summary's text, in hexadecimal digits of either case.
 fn read_digest(text: &str) -> Option<[u8; 32]>
     ensures { MatchOption result ((d : List ℕ) → IsDigest d → text.now ≡ encode_lower d → ⊥)
         (λ r. IsDigest r × ((d : List ℕ) → IsDigest d → text.now ≡ encode_lower d → r ≡ d)) }
@@ -30,7 +30,7 @@ fn read_digest(text: &str) -> Option<[u8; 32]>
     }
 }
 
-/// The digests of blocks of which these are the JSON, where they are that of any.
+/// The digests of blocks of which these are a summary's JSON, where they are that of any.
 fn read_list(alloc: Global, list: &[Value]) -> Result<Option<BTreeMap<u64, [u8; 32]>>, AllocError>
     ensures ascending { IfOk result (λ o. IfSome o (λ m. AreAscending m.entries)) }
     ensures complete { IfOk result (λ o. (bs : Blocks) → AreAscending bs
@@ -49,7 +49,7 @@ fn read_list(alloc: Global, list: &[Value]) -> Result<Option<BTreeMap<u64, [u8; 
     Ok(Some(blocks))
 }
 
-/// The number that stands for a block in a set, where there is one.
+/// The number that stands for a block in a summary's set of blocks, where there is one.
 fn place_of(k: u64) -> Option<Sequence>
     ensures { MatchOption result (max_sequence ≤ k) (λ n. n ≡ k + 1) }
 {
@@ -59,7 +59,7 @@ fn place_of(k: u64) -> Option<Sequence>
     Sequence::of_u64(k + 1)
 }
 
-/// The blocks, as a set that holds k + 1 for block k; none where one is past the last block.
+/// A summary's blocks, as a set that holds k + 1 for block k; none where one is past the last.
 fn numbers_of_blocks(
     alloc: Global,
     blocks: &BTreeMap<u64, [u8; 32]>,
@@ -79,8 +79,8 @@ fn numbers_of_blocks(
     Ok(Some(found))
 }
 
-/// Whether there is a digest of just the blocks of which some number is held. Time and memory go by
-/// the digests and the intervals that are there, not by the blocks that the intervals span.
+/// Whether a summary has a digest of just the blocks of which some number is held. Time and memory
+/// go by the digests and the intervals that are there, not by the blocks that these span.
 fn are_just(
     alloc: Global,
     blocks: &BTreeMap<u64, [u8; 32]>,
@@ -95,8 +95,8 @@ fn are_just(
     }
 }
 
-/// The digests of just the blocks of the numbers, of which this is the JSON, where it is that of
-/// any.
+/// The summary's digests of just the blocks of the numbers, of which this is the JSON, where it is
+/// that of any.
 pub(crate) fn read_blocks(
     alloc: Global,
     value: &Value,
@@ -119,7 +119,7 @@ pub(crate) fn read_blocks(
 }
 
 impl SourceDigests {
-    /// No digests. It takes no memory.
+    /// The digests of a summary that has none. They take no memory.
     pub(crate) fn empty(alloc: Global) -> SourceDigests
         ensures { result ≡ [] }
     {
@@ -129,7 +129,7 @@ impl SourceDigests {
         }
     }
 
-    /// Sets the digests of a source. Time logarithmic in the sources.
+    /// Sets the summary's digests of a source. Time logarithmic in the sources.
     pub(crate) fn put(
         &mut self,
         source: &str,

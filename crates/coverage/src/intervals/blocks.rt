@@ -38,7 +38,7 @@ impl Intervals {
         Intervals::of_pairs(self.alloc, &found)
     }
 
-    /// Whether every number from the first to the last is held.
+    /// Whether the intervals hold every number from the first to the last.
     pub(super) fn holds_span(&self, first: u64, last: u64) -> bool
         ensures all { IsTrue result
             → (n : ℕ) → first ≤ n → n ≤ last → holds self.now n ≡ true }
@@ -51,7 +51,7 @@ impl Intervals {
         }
     }
 
-    /// The first numbers from a number on that are held in a row, where there are any.
+    /// The first numbers from one on that the intervals hold in a row, where there are any.
     fn run_from(&self, from: u64) -> Option<Interval>
         ensures { MatchOption result (NoneFrom self.now from) (IsRunFrom self.now from) }
     {
@@ -61,8 +61,8 @@ impl Intervals {
         }
     }
 
-    /// Whether every number of a block that the other set holds is held; where not, the answer
-    /// may be false. Time goes by the other's intervals in the block, times a logarithm.
+    /// Whether the intervals hold every number of a block that the other set holds; where not, the
+    /// answer may be false. Time goes by the other's intervals in the block, times a logarithm.
     pub(crate) fn covers_block(&self, other: &Intervals, k: u64) -> bool
         requires { k ≤ 9007199254740991 }
         ensures { IsTrue result → (n : ℕ) → block_of n ≡ k

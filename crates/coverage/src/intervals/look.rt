@@ -7,7 +7,7 @@ use super::map::last_up_to;
 use super::{Interval, Intervals};
 
 impl Intervals {
-    /// The greatest number that is held. Time logarithmic in the count of intervals.
+    /// The greatest number that the intervals hold. Time logarithmic in the count of intervals.
     pub fn greatest(&self) -> Option<u64>
         ensures value { MatchOption result (self.now ≡ []) (IsGreatest self.now) }
         ensures bounded { IfSome result (λ g. g ≤ max_sequence) }
@@ -18,7 +18,7 @@ impl Intervals {
         }
     }
 
-    /// How many numbers are held. Time linear in the intervals.
+    /// How many numbers the intervals hold. Time linear in the intervals.
     pub fn size(&self) -> u64
         ensures size { result ≡ size_of self.now }
         ensures canonical { IsCanonical self.now }
@@ -41,7 +41,7 @@ impl Intervals {
         }
     }
 
-    /// Whether both sets hold the same numbers. Time linear in the intervals.
+    /// Whether both sets of intervals hold the same numbers. Time linear in the intervals.
     pub fn same(&self, other: &Intervals) -> bool
         ensures equal { IsTrue result ↔ (self.now ≡ other.now) }
         ensures numbers { IsTrue result ↔ ((n : ℕ) → holds self.now n ≡ holds other.now n) }
@@ -49,8 +49,8 @@ impl Intervals {
         self.starts == other.starts
     }
 
-    /// Whether every number of the other set is held. Time linear in the intervals of the other,
-    /// times the logarithm of the own ones.
+    /// Whether the intervals hold every number of the other set. Time linear in the intervals of
+    /// the other, times the logarithm of the own ones.
     pub(crate) fn covers(&self, other: &Intervals) -> bool
         ensures { IsTrue result ↔ HoldsAll self.now other.now }
     {

@@ -9,7 +9,7 @@ use attributes::Sequence;
 use std::alloc::{AllocError, Global};
 use std::collections::BTreeMap;
 
-/// The last interval that starts at the number or before.
+/// The last interval of a summary's numbers that starts at the number or before.
 pub(super) fn last_up_to(starts: &BTreeMap<u64, u64>, n: u64) -> Option<Interval>
     ensures { MatchOption result (NoneUpTo starts.now.entries n)
         (IsLastUpTo starts.now.entries n) }
@@ -21,7 +21,7 @@ pub(super) fn last_up_to(starts: &BTreeMap<u64, u64>, n: u64) -> Option<Interval
 }
 
 impl Intervals {
-    /// The empty set. It takes no memory.
+    /// The empty set, without intervals. It takes no memory.
     pub fn empty(alloc: Global) -> Intervals
         ensures list { result ≡ [] }
         ensures members { (n : ℕ) → holds result n ≡ false }
@@ -32,7 +32,7 @@ impl Intervals {
         }
     }
 
-    /// Whether the number is held. Time logarithmic in the count of intervals.
+    /// Whether the intervals hold the number. Time logarithmic in the count of intervals.
     pub fn contains(&self, number: Sequence) -> bool
         ensures { result ≡ holds self.now number }
     {
@@ -72,7 +72,7 @@ impl Intervals {
         Ok(true)
     }
 
-    /// A copy of the set. Time and memory linear in its intervals.
+    /// A copy of the intervals. Time and memory linear in them.
     pub fn copy(&self) -> Result<Intervals, AllocError>
         ensures copied { IfOk result (λ r. r ≡ self.now) }
         ensures canonical { IsCanonical self.now }
@@ -89,14 +89,14 @@ impl Intervals {
         })
     }
 
-    /// Whether no number is held.
+    /// Whether the intervals hold no number.
     pub fn is_empty(&self) -> bool
         ensures { IsTrue result ↔ (self.now ≡ []) }
     {
         self.starts.is_empty()
     }
 
-    /// The set of these intervals.
+    /// The set of numbers of these intervals.
     pub(crate) fn of_pairs(alloc: Global, pairs: &[Interval]) -> Result<Intervals, AllocError>
         requires { IsCanonical pairs.now }
         ensures { IfOk result (λ r. r ≡ pairs.now) }
@@ -108,7 +108,7 @@ impl Intervals {
         Ok(Intervals { starts, alloc })
     }
 
-    /// The intervals in a list.
+    /// The intervals of a set of numbers, in a list.
     pub(super) fn pairs(&self) -> Result<Vec<Interval>, AllocError>
         ensures pairs { IfOk result (λ v. v.items ≡ self.now) }
         ensures canonical { IsCanonical self.now }

@@ -37,7 +37,7 @@ pub(super) fn append_interval(
     Ok(())
 }
 
-/// Whether the next interval of two lists is the first's, by its start.
+/// Whether the next interval of two sets' lists is the first's, by its start.
 fn first_is_next(xs: &[Interval], i: usize, ys: &[Interval], j: usize) -> bool
     requires first_in { i ≤ length xs.now }
     requires second_in { j ≤ length ys.now }
@@ -56,7 +56,7 @@ fn first_is_next(xs: &[Interval], i: usize, ys: &[Interval], j: usize) -> bool
     xs[i].0 <= ys[j].0
 }
 
-/// The numbers of two lists.
+/// The numbers of two lists of intervals.
 fn merged(alloc: Global, xs: &[Interval], ys: &[Interval]) -> Result<Vec<Interval>, AllocError>
     requires first { IsCanonical xs.now }
     requires second { IsCanonical ys.now }
@@ -102,8 +102,8 @@ fn gaps(alloc: Global, pairs: &[Interval], top: u64) -> Result<Vec<Interval>, Al
 }
 
 impl Intervals {
-    /// The numbers of either set. Memory linear in the intervals of both, time the same times the
-    /// logarithm of their count.
+    /// The intervals of the numbers of either set. Memory linear in the intervals of both, time the
+    /// same times the logarithm of their count.
     pub fn union(&self, other: &Intervals) -> Result<Intervals, AllocError>
         ensures canonical { IfOk result (λ r. IsCanonical r) }
         ensures members { IfOk result (λ r. (n : ℕ)
@@ -121,7 +121,7 @@ impl Intervals {
         Intervals::of_pairs(self.alloc, &both)
     }
 
-    /// The set's numbers that the other doesn't hold. Time and memory as for `union`.
+    /// The intervals' numbers that the other doesn't hold. Time and memory as for `union`.
     pub fn minus(&self, other: &Intervals) -> Result<Intervals, AllocError>
         ensures canonical { IfOk result (λ r. IsCanonical r) }
         ensures members { IfOk result (λ r. (n : ℕ)
@@ -144,8 +144,8 @@ impl Intervals {
         Intervals::of_pairs(self.alloc, &left)
     }
 
-    /// The numbers from 1 on that aren't held, up to the greatest that is. Time and memory as for
-    /// `union`.
+    /// The numbers from 1 on that the intervals don't hold, up to the greatest that they do. Time
+    /// and memory as for `union`.
     pub fn missing(&self) -> Result<Intervals, AllocError>
         ensures missing { IfOk result (λ r. Forms r (IsMissing self.now)) }
 

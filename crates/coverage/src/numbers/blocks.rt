@@ -13,9 +13,9 @@ use serde_json::Value;
 use std::alloc::AllocError;
 
 impl Numbers {
-    /// The digests of just the blocks of these numbers, of which the value is the JSON, where it is
-    /// that of any. Time and memory linear in the value and the intervals, but for a logarithm in
-    /// the time.
+    /// The summary's digests of just the blocks of these numbers, of which the value is the JSON,
+    /// where it is that of any. Time and memory linear in the value and the intervals, but for a
+    /// logarithm in the time.
     pub(super) fn read_digests(&self, blocks: &Value) -> Result<Option<SourceDigests>, AllocError>
         ensures exact { IfOk result (λ o. IfSome o (λ d. AreDigests self.now d)) }
         ensures complete { IfOk result (λ o. (ds : SourceBlocks) → AreDigests self.now ds

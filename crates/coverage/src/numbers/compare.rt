@@ -22,8 +22,8 @@ impl Numbers {
         true
     }
 
-    /// Whether both hold the same numbers of the same sources. Time linear in the sources and the
-    /// intervals.
+    /// Whether both summaries hold the same numbers of the same sources. Time linear in the sources
+    /// and the intervals.
     pub fn same(&self, other: &Numbers) -> bool
         ensures equal { IsTrue result ↔ (self.now ≡ other.now) }
         ensures numbers { IsTrue result ↔ ((s : List ℕ) (m : ℕ)

@@ -14,7 +14,7 @@ use std::alloc::{AllocError, Global};
 use std::collections::BTreeMap;
 
 impl Numbers {
-    /// The summary without sources. It takes no memory.
+    /// The summary without sources and numbers. It takes no memory.
     pub fn empty(alloc: Global) -> Numbers
         ensures entries { result ≡ [] }
         ensures members { (s : List ℕ) (m : ℕ) → holds_in result s m ≡ false }
@@ -26,7 +26,7 @@ impl Numbers {
         }
     }
 
-    /// Whether the number has been seen for the source. Time logarithmic in the sources and in
+    /// Whether the summary holds the number for the source. Time logarithmic in the sources and in
     /// the intervals of the source.
     pub fn contains(&self, source: &str, number: Sequence) -> bool
         ensures { result ≡ holds_in self.now source.now number }
@@ -37,9 +37,9 @@ impl Numbers {
         }
     }
 
-    /// Adds a number of an allowed source. The answer is true where it is new. Time logarithmic in
-    /// the sources and in the intervals of the source, in whatever order they come; a source is
-    /// copied where it is new.
+    /// Adds a number of an allowed source to the summary. The answer is true where it is new. Time
+    /// logarithmic in the sources and in the intervals of the source, in whatever order they come;
+    /// a source is copied where it is new.
     pub fn insert(&mut self, source: &str, number: Sequence) -> Result<bool, AllocError>
         requires { is_filled source.now ≡ true }
         ensures new { IfOk result (λ b. b ≡ not (holds_in self.old source.now number)) }
@@ -60,7 +60,7 @@ impl Numbers {
         Ok(true)
     }
 
-    /// Adds a source behind all others, with its numbers.
+    /// Adds a source behind all others of the summary, with its numbers.
     pub(super) fn append(&mut self, source: &str, numbers: Intervals) -> Result<(), AllocError>
         requires entry { IsEntry (source.now, numbers) }
         requires last { EndsBefore self.old source.now }
@@ -69,7 +69,7 @@ impl Numbers {
         self.put(source, numbers)
     }
 
-    /// Sets the numbers of a source. Time logarithmic in the sources.
+    /// Sets the summary's numbers of a source. Time logarithmic in the sources.
     pub(super) fn put(&mut self, source: &str, numbers: Intervals) -> Result<(), AllocError>
         requires { IsEntry (source.now, numbers) }
         ensures { OnOk result (self.new ≡ insert_entry byte_cmp self.old source.now numbers) }
@@ -79,7 +79,7 @@ impl Numbers {
         Ok(())
     }
 
-    /// The numbers of the source, where it has any. Time logarithmic in the sources.
+    /// The summary's numbers of the source, where it has any. Time logarithmic in the sources.
     pub fn of_source(&self, source: &str) -> Option<&Intervals>
         ensures numbers { MatchOption result (numbers_in self.now source.now ≡ [])
             (λ i. i.now ≡ numbers_in self.now source.now) }
@@ -89,7 +89,7 @@ impl Numbers {
         self.entries.get(source)
     }
 
-    /// How many sources there are.
+    /// How many sources the summary's numbers have.
     pub fn len(&self) -> u64
         ensures len { result ≡ length (names_in self.now) }
         ensures summary { AreListed self.now }
@@ -97,8 +97,8 @@ impl Numbers {
         self.entries.len() as u64
     }
 
-    /// The source at a place of the byte order, from 0 on. Time linear in the place: whoever wants
-    /// all of them takes `entries`.
+    /// The summary's source at a place of the byte order, from 0 on. Time linear in the place:
+    /// whoever wants all of them takes `entries`.
     pub fn source_at(&self, i: u64) -> &str
         requires { i < length (names_in self.now) }
         ensures { slice_get (names_in self.now) i ≡ Some result.now }
@@ -106,7 +106,7 @@ impl Numbers {
         self.entries.keys().nth(i as usize).unwrap().as_str()
     }
 
-    /// All sources in byte order, each with its numbers. Time and memory linear in the sources.
+    /// The summary's sources in byte order, with their numbers. Time and memory linear in them.
     pub fn entries(&self) -> Result<Vec<(&str, &Intervals)>, AllocError>
         ensures entries { IfOk result (λ v. map deref_pair v.items ≡ self.now) }
         ensures summary { AreListed self.now }
@@ -118,8 +118,8 @@ impl Numbers {
         Ok(entries)
     }
 
-    /// A copy. Time and memory linear in the sources and the intervals, but for a logarithm in the
-    /// time.
+    /// A copy of a summary's numbers. Time and memory linear in the sources and the intervals, but
+    /// for a logarithm in the time.
     pub fn copy(&self) -> Result<Numbers, AllocError>
         ensures copied { IfOk result (λ r. r ≡ self.now) }
         ensures summary { AreListed self.now }

@@ -9,8 +9,8 @@ use super::Numbers;
 use std::alloc::AllocError;
 
 impl Numbers {
-    /// What both tell, each source whole: the own numbers where it stands here, and else the
-    /// other's. Time and memory linear in the sources and the intervals of both, but for a
+    /// What both summaries tell, each source whole: the own numbers where it stands here, and else
+    /// the other's. Time and memory linear in the sources and the intervals of both, but for a
     /// logarithm in the time.
     pub fn join(&self, other: &Numbers) -> Result<Numbers, AllocError>
         ensures summary { IfOk result (λ r. AreListed r) }
@@ -31,7 +31,7 @@ impl Numbers {
         Ok(both)
     }
 
-    /// Whether the source has numbers. Time logarithmic in the sources.
+    /// Whether the summary has numbers of the source. Time logarithmic in the sources.
     fn has(&self, source: &str) -> bool
         ensures { result ≡ is_some (lookup (is_at (byte_cmp source.now)) self.now) }
     {

@@ -24,7 +24,7 @@ use serde_json::{Map, Value};
 use std::alloc::{AllocError, Global};
 use std::cmp::Ordering;
 
-/// The bytes as a JSON value.
+/// The bytes of a summary's text as a JSON value.
 pub(crate) fn parse(alloc: Global, bytes: &[u8]) -> Result<Value, SummaryFault>
     ensures value { IfOk result (λ v. IsJsonText bytes.now (view v)) }
     ensures refused { IfErr result (RefusesSummary bytes.now) }
@@ -42,7 +42,7 @@ pub(crate) fn parse(alloc: Global, bytes: &[u8]) -> Result<Value, SummaryFault>
     }
 }
 
-/// Whether the pair is an interval of sequence numbers that starts at the number or later.
+/// Whether the pair is a summary's interval of sequence numbers that starts at the number or later.
 fn fits_from(from: u64, pair: Interval) -> bool
     requires { 1 ≤ from }
     ensures { result ≡ fits_from from pair }
@@ -50,7 +50,7 @@ fn fits_from(from: u64, pair: Interval) -> bool
     from <= pair.0 && pair.0 <= pair.1 && Sequence::of_u64(pair.1).is_some()
 }
 
-/// The intervals of which these are the JSON, where they are that of any.
+/// The intervals of which these are a summary's JSON, where they are that of any.
 fn read_pairs(alloc: Global, list: &[Value]) -> Result<Option<Vec<Interval>>, AllocError>
     ensures canonical { IfOk result (λ o. IfSome o (λ v. IsCanonical v.items)) }
     ensures complete { IfOk result (λ o. (ps : List Interval) → IsCanonical ps
@@ -71,7 +71,7 @@ fn read_pairs(alloc: Global, list: &[Value]) -> Result<Option<Vec<Interval>>, Al
     Ok(Some(pairs))
 }
 
-/// The set of which this is the JSON, where it is that of any.
+/// The set of numbers of which this is a summary's JSON, where it is that of any.
 fn read_intervals(alloc: Global, value: Value) -> Result<Option<Intervals>, AllocError>
     ensures canonical { IfOk result (λ o. IfSome o (λ i. IsCanonical i)) }
     ensures complete { IfOk result (λ o. (ps : List Interval) → IsCanonical ps
@@ -107,7 +107,7 @@ fn read_entries(alloc: Global, sources: Map<String, Value>) -> Result<Option<Num
     Ok(Some(summary))
 }
 
-/// The members of an object, taken out of the value.
+/// The members of a JSON object of a summary, taken out of the value.
 fn members_of(value: Value) -> Option<Map<String, Value>>
     ensures { option_map (λ m. members_view m.entries) result ≡ as_object (view value) }
 {
@@ -117,7 +117,7 @@ fn members_of(value: Value) -> Option<Map<String, Value>>
     }
 }
 
-/// The numbers of which the member `sources` is the JSON, where it is that of any.
+/// The numbers of which a summary's member `sources` is the JSON, where it is that of any.
 fn take_sources(alloc: Global, members: Map<String, Value>) -> Result<Option<Numbers>, AllocError>
     ensures summary { IfOk result (λ o. IfSome o (λ s. AreListed s)) }
     ensures complete { IfOk result (λ o. (s : Entries) → AreListed s
@@ -134,7 +134,7 @@ fn take_sources(alloc: Global, members: Map<String, Value>) -> Result<Option<Num
     read_entries(alloc, sources)
 }
 
-/// The numbers of which this is the JSON, where it is that of any.
+/// The summary's numbers of which this is the JSON, where it is that of any.
 fn read_numbers(alloc: Global, value: Value) -> Result<Option<Numbers>, AllocError>
     ensures summary { IfOk result (λ o. IfSome o (λ s. AreListed s)) }
     ensures complete { IfOk result (λ o. (s : Entries) → AreListed s
@@ -146,8 +146,8 @@ fn read_numbers(alloc: Global, value: Value) -> Result<Option<Numbers>, AllocErr
     }
 }
 
-/// The numbers and the digests of just their blocks of which this is the JSON, where it is that of
-/// any.
+/// The summary's numbers and the digests of just their blocks of which this is the JSON, where it
+/// is that of any.
 fn read_both(alloc: Global, value: Value) -> Result<Option<(Numbers, SourceDigests)>, AllocError>
     ensures summary { IfOk result (λ o. IfSome o (λ r. AreListed r.0 × AreDigests r.0 r.1)) }
     ensures complete { IfOk result (λ o. (es : Entries) (ds : SourceBlocks) → AreListed es
@@ -169,7 +169,7 @@ fn read_both(alloc: Global, value: Value) -> Result<Option<(Numbers, SourceDiges
     Ok(Some((numbers, digests)))
 }
 
-/// Whether the bytes are the text's.
+/// Whether the bytes are the summary's text.
 fn is_text(text: &Text, bytes: &[u8]) -> bool
     ensures { IsTrue result ↔ (text.now ≡ bytes.now) }
 {
@@ -177,8 +177,8 @@ fn is_text(text: &Text, bytes: &[u8]) -> bool
 }
 
 impl Numbers {
-    /// The numbers of which these are the text, version 1, byte for byte as `to_text` writes it;
-    /// the value is that of the bytes.
+    /// The summary's numbers of which these are the text, version 1, byte for byte as `to_text`
+    /// writes it; the value is that of the bytes.
     pub fn of_value(alloc: Global, value: Value, bytes: &[u8]) -> Result<Numbers, SummaryFault>
         requires json { IsJsonText bytes.now (view value) }
         requires version { version_of (view value) ≡ Some 1 }
@@ -201,7 +201,7 @@ impl Numbers {
         Ok(numbers)
     }
 
-    /// The numbers and digests of which these are the text, version 2, byte for byte as
+    /// The summary's numbers and digests of which these are the text, version 2, byte for byte as
     /// `to_text_with` writes it; the value is that of the bytes.
     pub fn of_value_with(
         alloc: Global,
@@ -230,7 +230,7 @@ impl Numbers {
         Ok((numbers, digests))
     }
 
-    /// Whether the source comes after all others.
+    /// Whether the source comes after all others of the summary.
     fn ends_before(&self, source: &str) -> bool
         ensures { IsTrue result ↔ EndsBefore self.now source.now }
     {
@@ -243,7 +243,7 @@ impl Numbers {
         }
     }
 
-    /// Whether these may be the last entry: an allowed source after all others, with some number.
+    /// Whether this may be the summary's last entry: allowed source after all others, some number.
     fn may_end_with(&self, source: &Text, numbers: &Intervals) -> bool
         ensures { IsTrue result ↔ ((is_filled source.now ≡ true) × (numbers.now ≢ [])
             × EndsBefore self.now source.now) }

@@ -9,7 +9,7 @@ ghost use Rattle.coverage.specs.SummaryShape.{is_shaped_with_blocks, version_of}
 use crate::intervals::Interval;
 use serde_json::Value;
 
-/// The two numbers of an array of two whole numbers.
+/// The interval of a summary's array of two whole numbers.
 pub(crate) fn interval_in(value: &Value) -> Option<Interval>
     ensures { result ≡ interval_in (view value.now) }
 {
@@ -25,7 +25,7 @@ pub(crate) fn interval_in(value: &Value) -> Option<Interval>
     }
 }
 
-/// Whether the value is an array of pairs of numbers.
+/// Whether a summary's JSON value is an array of pairs of numbers, as intervals are.
 fn is_list_of_pairs(value: &Value) -> bool
     ensures { result ≡ is_list_of_pairs (view value.now) }
 {
@@ -40,7 +40,7 @@ fn is_list_of_pairs(value: &Value) -> bool
     true
 }
 
-/// Whether the value is an object of such arrays.
+/// Whether a summary's JSON value is an object of arrays of pairs of numbers.
 fn is_object_of_lists(value: &Value) -> bool
     ensures { result ≡ is_object_of_lists (view value.now) }
 {
@@ -55,15 +55,15 @@ fn is_object_of_lists(value: &Value) -> bool
     true
 }
 
-/// The member `version`, where it is a whole number.
+/// The member `version` of a summary, where it is a whole number.
 pub(crate) fn version_of(value: &Value) -> Option<u64>
     ensures { result ≡ version_of (view value.now) }
 {
     value.get("version").and_then(Value::as_u64)
 }
 
-/// Whether the members are just `version` and `sources`, and `sources` has lists of pairs of
-/// numbers.
+/// Whether a summary's members are just `version` and `sources`, and `sources` has lists of pairs
+/// of numbers.
 pub(crate) fn is_shaped(value: &Value) -> bool
     ensures { result ≡ is_shaped (view value.now) }
 {
@@ -79,7 +79,7 @@ pub(crate) fn is_shaped(value: &Value) -> bool
     }
 }
 
-/// The number and the text of an array of a whole number and a text.
+/// The block's number and digest text of a summary's array of a whole number and a text.
 pub(crate) fn block_in(value: &Value) -> Option<(u64, &str)>
     ensures { option_map (λ p. (p.0, p.1.now)) result ≡ block_in (view value.now) }
 {
@@ -95,7 +95,7 @@ pub(crate) fn block_in(value: &Value) -> Option<(u64, &str)>
     }
 }
 
-/// Whether the value is an array of such arrays.
+/// Whether a summary's JSON value is an array of arrays of a block's number and a text.
 fn is_list_of_blocks(value: &Value) -> bool
     ensures { result ≡ is_list_of_blocks (view value.now) }
 {
@@ -110,7 +110,7 @@ fn is_list_of_blocks(value: &Value) -> bool
     true
 }
 
-/// Whether the value is an object of arrays of such arrays.
+/// Whether a summary's JSON is an object of arrays of arrays of a block's number and a text.
 fn is_object_of_blocks(value: &Value) -> bool
     ensures { result ≡ is_object_of_blocks (view value.now) }
 {
@@ -125,8 +125,8 @@ fn is_object_of_blocks(value: &Value) -> bool
     true
 }
 
-/// Whether the members are just `version`, `blocks` and `sources`, `blocks` has lists of pairs of a
-/// number and a text, and `sources` has lists of pairs of numbers.
+/// Whether a summary's members are just `version`, `blocks` and `sources`, `blocks` has lists of
+/// pairs of a number and a text, and `sources` has lists of pairs of numbers.
 pub(crate) fn is_shaped_with_blocks(value: &Value) -> bool
     ensures { result ≡ is_shaped_with_blocks (view value.now) }
 {

@@ -26,7 +26,7 @@ impl Numbers {
         Ok(both)
     }
 
-    /// Adds numbers of a source.
+    /// Adds numbers of a source to the summary.
     fn add_all(&mut self, source: &str, numbers: &Intervals) -> Result<(), AllocError>
         requires { IsEntry (source.now, numbers.now) }
         ensures summary { AreListed self.new }

@@ -13,7 +13,7 @@ use attributes::Text;
 use json::Writer;
 use std::alloc::AllocError;
 
-/// Writes a source, and then its intervals.
+/// Writes a source of a summary's text, and then its intervals.
 fn write_entry(out: &mut Writer, source: &str, numbers: &Intervals) -> Result<(), AllocError>
     ensures before { OnOk result (out.new.before ≡ out.old.before) }
     ensures tokens { OnOk result
@@ -27,8 +27,8 @@ fn write_entry(out: &mut Writer, source: &str, numbers: &Intervals) -> Result<()
 }
 
 impl Numbers {
-    /// Writes each source with an array of its intervals, without an object around them. Time and
-    /// memory linear in the sources and the intervals.
+    /// Writes each source of a summary with an array of its intervals, without an object around
+    /// them. Time and memory linear in the sources and the intervals.
     pub fn write(&self, out: &mut Writer) -> Result<(), AllocError>
         ensures before { OnOk result (out.new.before ≡ out.old.before) }
         ensures tokens { OnOk result (out.new.tokens
@@ -61,9 +61,9 @@ impl Numbers {
         Ok(Text::from_string(text))
     }
 
-    /// The text of numbers with digests, version 2: a JSON object without white space that has the
-    /// blocks and the intervals of the sources, both in byte order. Time and memory linear in the
-    /// sources, the blocks and the intervals.
+    /// The text of a summary's numbers with digests, version 2: a JSON object without white space
+    /// that has the blocks and the intervals of the sources, both in byte order. Time and memory
+    /// linear in the sources, the blocks and the intervals.
     pub fn to_text_with(&self, digests: &SourceDigests) -> Result<Text, AllocError>
         ensures text { IfOk result (λ t. t ≡ digests_text self.now digests.now) }
         ensures summary { AreListed self.now }

@@ -17,7 +17,7 @@ module _ {A B : Type 0} where
     pub refused : (f : CommandFault) → given ≡ Err f → made ≡ Err f
     pub why : IfErr made (λ f. (given ≡ Err f) ⊎ (f ≡ OutOfMemory))
 
--- the table of a database was opened, or made, and let go, and this is what it holds
+-- a command opened, or made, and let go the table of a database, and this is what it holds
 pub record ContentsEffect (outcome : Result (List EventValue) CommandFault) (old new : State)
     : Type 0 where
   pub events : HasCleanDisk new → IfOk outcome (ShowsEvents old.now)

@@ -12,12 +12,12 @@ use Rattle.databases.specs.Described.{CountsSources}
 use Rattle.databases.specs.Print.{database_line, service_line}
 use Rattle.databases.specs.Service.{TellsService}
 
--- a service with this source and base has so many orders and so many rows
+-- a database's service with this source and base has so many orders and so many rows
 abbrev pub CountsService : State → List ℕ → ℕ → ℕ → ℕ → Type 0
 CountsService s source base orders rows = HasCleanDisk s → IsTrue s.is_open
     → CountsOrders s.now source base orders × CountsRows s.now source base rows
 
--- the text is the line of a service with this source and base, which are those that are asked for
+-- the text is the line of a database's service with this source and base, as is asked for
 pub record IsLineOf (s : State) (source : List ℕ) (base : ℕ) (is_named : Bool) (given : List ℕ)
     (start : Option ℕ) (text : List ℕ) : Type 0 where
   pub orders : ℕ
@@ -32,7 +32,7 @@ abbrev pub TellsEach : Database → List ℕ → Type 0
 TellsEach db text = (source : List ℕ) (base : ℕ) (commands : List Accepted)
     → IsService db source base commands → TellsService source base commands text
 
--- the text is the line of an inbox with these events, whose version has this number
+-- the text is the line of a database's inbox with these events, whose version has this number
 abbrev pub TellsInboxLine : List ℕ → List EventValue → ℕ → List ℕ → Type 0
 TellsInboxLine name events version text = (n : ℕ) × CountsSources (append_new key_cmp [] events) n
     × (text ≡ database_line name (length events) n version)

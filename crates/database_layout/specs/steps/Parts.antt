@@ -2,7 +2,7 @@
 use Rattle.std.specs.Prelude.{◌≡◌, [], ◌∷◌, false, Some}
 use Rattle.sqlite_schema.specs.declared.schema.Table.{Table}
 
--- its key is its first column, and nothing else says more of it
+-- the table's key is its first column, and nothing else in the CREATE says more of it
 pub record IsBareTable (t : Table) : Type 0 where
   pub key : t.key ≡ Some 0
   pub primary : t.primary ≡ 0 ∷ []

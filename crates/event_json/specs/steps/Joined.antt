@@ -2,12 +2,12 @@
 use Rattle.std.specs.Prelude.{ℕ, List, [], ◌∷◌, ◌++◌, Bool, true, false}
 use Rattle.attributes.specs.Event.{EventValue, text}
 
--- the text, with a comma before it unless it is the first
+-- an event's text in a batch, with a comma before it unless it is the first
 abbrev pub separated : Bool → List ℕ → List ℕ
 separated true t = t
 separated false t = 44 ∷ t
 
--- the texts joined by commas; the flag says that nothing stands before
+-- the texts of a batch joined by commas; the flag says that nothing stands before
 abbrev pub joined : Bool → List EventValue → List ℕ
 joined first [] = []
 joined first (e ∷ es) = separated first (text e) ++ joined false es

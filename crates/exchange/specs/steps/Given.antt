@@ -9,11 +9,11 @@ use Rattle.exchange.specs.Schedule.{places_after, after_part}
 use Rattle.exchange.specs.declared.step.Step.{Step}
 use Rattle.exchange.specs.declared.world.Hosted.{Hosted}
 
--- the arrivals of site i
+-- the arrivals of site i among those that exchange
 abbrev pub site_at : List Hosted → ℕ → List EventValue
 site_at hosts i = (slice_index_or hosts i (record { site = []; kept = 0 })).site
 
--- site i has taken the events L, and nothing else is changed
+-- in an exchange site i has taken the events L, and nothing else is changed
 pub record GivesTo (old new : List Hosted) (i : ℕ) (L : List EventValue) : Type 0 where
   pub host : Hosted
   pub there : slice_get old i ≡ Some host
@@ -22,12 +22,12 @@ pub record GivesTo (old new : List Hosted) (i : ℕ) (L : List EventValue) : Typ
   pub arrivals : site ≡ append_new key_cmp host.site L
   pub set : set_of site ≡ union (set_of host.site) L
 
--- it has taken them; refused, the first so many alone
+-- in an exchange the site has taken the events; refused, the first so many alone
 abbrev pub Gives : List Hosted → List Hosted → ℕ → List EventValue → Result (Unit {0}) ℕ → Type 0
 Gives old new i L (Ok _) = GivesTo old new i L
 Gives old new i L (Err n) = GivesTo old new i (take n L)
 
--- the world places_after a step that was made; refused, places_after the first so many of its events
+-- the world after a step of the schedule was made; refused, after the first so many of its events
 abbrev pub after_made : Result (Unit {0}) ℕ → Step → List Place → List Place
 after_made (Ok _) step w = places_after step w
 after_made (Err n) step w = after_part n step w

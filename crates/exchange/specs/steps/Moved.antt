@@ -8,9 +8,9 @@ use Rattle.inbox.specs.Sets.{set_of, union}
 use Rattle.site.specs.Delta.{lacking_of}
 use Rattle.exchange.specs.declared.transfer.Moved.{Moved}
 
--- of the events `left` of E that the peer lacks from a place on, so many came to a site with the
--- arrivals `old`, from the first on, and the others stand from the next place on; refused, fewer
--- than all came
+-- a part of a gossip: of the events `left` of E that the peer lacks from a place on, so many came
+-- to a site with the arrivals `old`, from the first on, and the others stand from the next place
+-- on; refused, fewer than all came
 pub record MovesOn (E : List EventValue) (peer : Sources) (place : ℕ) (left old new : List EventValue)
     (result : Result Moved ℕ) : Type 0 where
   pub arrivals : IfOk result (λ m. new ≡ append_new key_cmp old (take m.count left))

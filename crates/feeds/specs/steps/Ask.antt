@@ -10,13 +10,13 @@ use Rattle.views.specs.declared.query.Query.{Query}
 use Rattle.feeds.specs.declared.report.WorkerEnd.{WorkerEnd}
 use Rattle.feeds.specs.declared.report.WorkerEnd.TheVariants.{GateShut, OutOfMemory}
 
--- it stopped at this question: before its call, or after it, which was refused or whose answer
--- there was no memory to keep
+-- the worker stopped at this question: before its call, or after it, which was refused or whose
+-- answer there was no memory to keep
 abbrev pub StopsAt : Query → List Call → List Answer → List Answer → WorkerEnd → Type 0
 StopsAt query m old new ended = (new ≡ old) × (((ended ≡ GateShut) × (m ≡ []))
     ⊎ ((ended ≡ OutOfMemory) × ((reply : Reply) × (m ≡ call (command.Query query) reply ∷ []))))
 
--- one question was asked and its answer kept, if nothing ended it
+-- the worker asked one question and its answer was kept, if nothing ended it
 pub record AsksOne (query : Query) (m : List Call) (old new : List Answer) (o : Option WorkerEnd)
     : Type 0 where
   pub goes_on : o ≡ None → (answer : Answer)

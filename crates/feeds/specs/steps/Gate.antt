@@ -12,7 +12,7 @@ pub record GoesThrough (lets shuts heard : ℕ → ℕ → Type 0) (worker first
   pub counts : o ≡ None → last ≡ first + count
   pub shut : o ≡ Some GateShut → shuts worker (first + count + 1)
 
--- why a step ended the worker, if it did
+-- why a step of a worker ended it, if it did
 abbrev pub end_if : {A : Type 0} → Result A WorkerEnd → Option WorkerEnd
 end_if (Ok a) = None
 end_if (Err ended) = Some ended

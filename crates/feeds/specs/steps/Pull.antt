@@ -18,14 +18,14 @@ use Rattle.feeds.specs.declared.report.WorkerEnd.TheVariants.{Done, GateShut, Ou
 use Rattle.feeds.specs.declared.report.Tally.{Tally}
 use Rattle.feeds.specs.steps.Tally.{Counted}
 
--- the call for the summary: it is told, or the gate was shut before the call, or this was refused
+-- a pull's call for the summary: this is told, or the gate was shut before, or it was refused
 abbrev pub SumsUp : List Call → Result Sources WorkerEnd → Type 0
 SumsUp n (Ok peer) = n ≡ call command.Summary (Summed peer) ∷ []
 SumsUp n (Err OutOfMemory) = (fault : DeskFault) × (n ≡ call command.Summary (refused fault) ∷ [])
 SumsUp n (Err GateShut) = n ≡ []
 SumsUp n (Err _) = ⊥
 
--- the call for a page, in the same way
+-- a pull's call for a page: this is told, or the gate was shut before, or it was refused
 abbrev pub Pages : Sources → ℕ → List Call → Result (List EventValue) WorkerEnd → Type 0
 Pages peer place m (Ok events) =
     (m ≡ call (command.DeltaPage peer place max_page) (Paged events) ∷ [])
@@ -39,7 +39,7 @@ Pages peer place m (Err _) = ⊥
 abbrev pub HasSameCounts : Tally → Tally → Type 0
 HasSameCounts t u = (u.fresh ≡ t.fresh) × (u.repeated ≡ t.repeated) × (u.refused ≡ t.refused)
 
--- a page was moved, whole if nothing ended it
+-- a pull moved a page, whole if nothing ended the worker
 pub record MovesPage (peer : Sources) (m n : List Call) (t u : Tally) (o : Option WorkerEnd)
     : Type 0 where
   pub pages : ArePages peer (t.fresh + t.repeated) m
@@ -51,7 +51,7 @@ pub record MovesPage (peer : Sources) (m n : List Call) (t u : Tally) (o : Optio
   pub cause : HasCauseIf m o × HasCauseIf n o
   pub done : o ≡ Some Done → (handled n ≡ replied m) × (replied m ≡ []) × EndsEmpty m
 
--- after these calls
+-- a pull on its way, after these calls
 pub record Pulling (peer : Sources) (m n : List Call) (t : Tally) : Type 0 where
   pub pages : ArePages peer 0 m
   pub takes : AreTakes n

@@ -22,7 +22,7 @@ use Rattle.feeds.specs.declared.serving.worker.Pending.{Pending}
 use Rattle.feeds.specs.declared.serving.worker.Work.{Work}
 use Rattle.feeds.specs.declared.serving.worker.Work.TheVariants as work
 
--- all the work, in the order of the workers
+-- all the work of feeds, peers and asks, in the order of the workers
 abbrev pub works_of : List (List ℕ) → List (List EventValue) → List (List Query) → List Work
 works_of feeds peers asks = map work.Feed feeds ++ (map work.Pull peers ++ map work.Ask asks)
 
@@ -43,7 +43,7 @@ module _ (lets shuts heard : ℕ → ℕ → Type 0) where
   Performs worker (work.Pull A) m B (Answered r) = ⊥
   Performs worker (work.Ask queries) m B (Reported r) = ⊥
 
--- the job for this work, with the pass of the worker at this place
+-- the job for this piece of work, with the pass of the worker at this place
 pub record IsJobAt (p : ShownPass) (place : ℕ) (w : Work) (j : Job) : Type 0 where
   pub worker : j.worker ≡ place
   pub work : j.work ≡ w
@@ -57,14 +57,14 @@ abbrev pub EndsJob : (ℕ → ℕ → Type 0) → (ℕ → ℕ → Type 0) → (
 EndsJob lets shuts heard j f = (m : List Call) × Steps j.pass f.pass m
     × Performs lets shuts heard j.worker j.work m (leaves f.pass) f.outcome
 
--- the two lists have one length, and this holds at each place
+-- of workers and their jobs: the two lists have one length, and this holds at each place
 abbrev pub Each : {A : Type 0} → {B : Type 0} → (A → B → Type 0) → List A → List B → Type 0
 Each Holds [] [] = Unit {0}
 Each Holds [] (y ∷ ys) = ⊥
 Each Holds (x ∷ xs) [] = ⊥
 Each Holds (x ∷ xs) (y ∷ ys) = Holds x y × Each Holds xs ys
 
--- all passes are of this site
+-- the passes of all workers' jobs are of this site
 abbrev pub AreAt : TableId → List Job → Type 0
 AreAt t [] = Unit {0}
 AreAt t (j ∷ js) = (j.pass.table ≡ t) × AreAt t js
@@ -82,7 +82,7 @@ AllTold seen (f ∷ fs) = StartsWith seen f.pass.seen × (made_by f.pass.number 
 abbrev pub outcomes : List Finished → List JobEnd
 outcomes fs = map (λ f. f.outcome) fs
 
--- the reports and the answers among what came of jobs
+-- the reports and the answers of workers among what came of jobs
 abbrev pub reports_by : JobEnd → List Report
 reports_by (Reported r) = r ∷ []
 reports_by (Answered r) = []

@@ -15,7 +15,7 @@ use Rattle.feeds.specs.declared.report.WorkerEnd.{WorkerEnd}
 use Rattle.feeds.specs.declared.report.WorkerEnd.TheVariants as ended
 use Rattle.feeds.specs.declared.report.Tally.{Tally}
 
--- the tally grew by just these calls
+-- the worker's tally grew by just these calls
 pub record Counted (m : List Call) (t u : Tally) : Type 0 where
   pub fresh : u.fresh ≡ t.fresh + fresh_of m
   pub repeated : u.repeated ≡ t.repeated + repeated_of m
@@ -30,7 +30,7 @@ StopsBy m (Some ended.OutOfMemory) = EndsRefused m
 StopsBy m (Some ended.GateShut) = AreAnswered m
 StopsBy m (Some _) = ⊥
 
--- one batch was handed over, whole if nothing ended it
+-- a worker handed over one batch to the desk, whole if nothing ended it
 pub record Flushed (m : List Call) (batch left : List EventValue) (t u : Tally)
     (o : Option WorkerEnd) : Type 0 where
   pub handles : Handles m batch
@@ -38,18 +38,18 @@ pub record Flushed (m : List Call) (batch left : List EventValue) (t u : Tally)
   pub whole : o ≡ None → (handled m ≡ batch) × (left ≡ [])
   pub stop : StopsBy m o
 
--- so, or the batch was not full and nothing was done
+-- a worker handed a batch to the desk, or the batch was not full and nothing was done
 abbrev pub FlushedIfFull : List Call → List EventValue → List EventValue → Tally → Tally
     → Option WorkerEnd → Type 0
 FlushedIfFull m batch left t u o = Flushed m batch left t u o
     ⊎ ((m ≡ []) × (left ≡ batch) × (u ≡ t) × (o ≡ None) × (length batch < max_page))
 
--- an event came into the batch, or was passed over
+-- an event came into a worker's batch, or was passed over without a number
 abbrev pub Passes : EventValue → List EventValue → List EventValue → Tally → Tally → Type 0
 Passes e b c t u = ((is_with_number e ≡ false) × (c ≡ b) × (u ≡ record t { refused = t.refused + 1 }))
     ⊎ ((is_with_number e ≡ true) × (c ≡ b ++ e ∷ []) × (u ≡ t))
 
--- after these events
+-- a worker's feed on its way, after these events
 pub record Going (passed : List EventValue) (m : List Call) (batch : List EventValue) (t : Tally)
     : Type 0 where
   pub takes : AreTakes m
@@ -60,10 +60,10 @@ pub record Going (passed : List EventValue) (m : List Call) (batch : List EventV
   pub refused : t.refused ≡ length (unsequenced passed)
   pub answered : AreAnswered m
 
--- how far a refused call came
+-- how far a worker's refused call came
 abbrev pub short_of : DeskFault → Short
 short_of (OutOfMemory taken fresh) = record { taken = taken; fresh = fresh }
 
--- others added to the arrivals, and then came these events
+-- others added to the desk's arrivals, and then came these events of the worker
 abbrev pub ComesBehindOthers : List EventValue → List EventValue → List EventValue → Type 0
 ComesBehindOthers A L B = (others : List EventValue) × (B ≡ append_new key_cmp (A ++ others) L)

@@ -25,7 +25,7 @@ fn settle(shared: &SharedSite, pass: &mut Pass, finished: &mut Finished)
     finished.pass.stands();
 }
 
-/// Puts what came of a job behind what came of those before.
+/// Puts what came of a worker's job behind what came of those before.
 fn add(served: &mut Served, outcome: JobEnd)
     requires { (vec_len served.old.reports < vec_capacity served.old.reports)
         × (vec_len served.old.asked < vec_capacity served.old.asked) }
@@ -42,8 +42,8 @@ fn add(served: &mut Served, outcome: JobEnd)
     }
 }
 
-/// The pass meets each worker, and each worker then the pass. What came of the jobs is put into the
-/// room that was made for it, in their order.
+/// The pass meets each worker, and each worker then the pass. What came of the workers' jobs is put
+/// into the room that was made for it, in their order.
 #[cycle(close)]
 #[tactic(auto, using(crate::proofs::ServeLemmas::all_at_last))]
 pub(super) fn close_all(

@@ -76,7 +76,7 @@ fn work<R: Wait, G: Gate>(
     Finished { outcome, pass }
 }
 
-/// Turns the aside until it stops or no job is left.
+/// Turns the aside until it stops or no worker's job is left.
 fn turn_until_done<R: Wait, A: Aside + Drop>(rt: &R, left: &AtomicU64, mut aside: A) -> A
     ensures { A.moves aside result }
 {
@@ -89,8 +89,8 @@ fn turn_until_done<R: Wait, A: Aside + Drop>(rt: &R, left: &AtomicU64, mut aside
     unreachable!()
 }
 
-/// Does each job in a thread of its own, and turns the aside meanwhile. What came of the jobs is
-/// put into the room that was made for it; none where a thread couldn't be started.
+/// Does each worker's job in a thread of its own, and turns the aside meanwhile. What came of the
+/// jobs is put into the room that was made for it; none where a thread couldn't be started.
 #[cycle(jobs)]
 #[tactic(auto, using(crate::proofs::ServeLemmas::one_more, crate::proofs::ServeLemmas::at_last))]
 fn run_jobs<R: Threads + Wait + Sync, G: Gate + Sync, A: Aside + Drop>(
@@ -183,7 +183,7 @@ impl<'a, A: Aside> Aside for Lent<'a, A> {
     }
 }
 
-/// Hands an aside back as it is. Its law tells that it may stay so.
+/// Hands an aside of workers back as it is. Its law tells that it may stay so.
 pub(super) fn stay<A: Aside>(aside: &mut A)
     ensures same { aside.new ≡ aside.old }
     ensures moves { A.moves aside.old aside.new }
@@ -191,7 +191,7 @@ pub(super) fn stay<A: Aside>(aside: &mut A)
     let _ = aside;
 }
 
-/// As `run_jobs`, with an aside that stays the caller's.
+/// Workers do jobs as in `run_jobs`, with an aside that stays the caller's.
 pub(super) fn run_beside<R: Threads + Wait + Sync, G: Gate + Sync, A: Aside>(
     rt: &R,
     alloc: Global,

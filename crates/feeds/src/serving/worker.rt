@@ -53,7 +53,7 @@ pub(crate) struct Pending {
 }
 
 impl Pending {
-    /// All of the jobs.
+    /// All of the workers' jobs.
     pub(super) fn of(jobs: Jobs) -> Pending
         ensures { pending_works result ≡ works_of jobs.feeds jobs.peers jobs.asks }
     {
@@ -65,7 +65,7 @@ impl Pending {
         }
     }
 
-    /// The last of the work: asks come behind peers, and peers behind feeds.
+    /// The last of the workers' work: asks come behind peers, and peers behind feeds.
     fn take_last(&mut self) -> Option<Work>
         ensures { MatchOption result (pending_works self.old ≡ [])
             (λ work. pending_works self.old ≡ pending_works self.new ++ work ∷ []) }
@@ -83,7 +83,7 @@ impl Pending {
     }
 }
 
-/// Adds a value where there is room for it.
+/// Adds a value, of workers or of what came of their jobs, where there is room for it.
 pub(super) fn put<T: Drop>(list: &mut Vec<T>, value: T)
     requires { vec_len list.old < vec_capacity list.old }
     ensures items { list.new.items ≡ list.old.items ++ value ∷ [] }
@@ -94,8 +94,8 @@ pub(super) fn put<T: Drop>(list: &mut Vec<T>, value: T)
     };
 }
 
-/// A job for each piece of work, in their order, with a pass of its own, in the room that was made
-/// for them.
+/// A worker's job for each piece of work, in their order, with a pass of its own, in the room that
+/// was made for them.
 #[cycle(split)]
 pub(super) fn split_all(
     shared: &SharedSite,

@@ -30,7 +30,7 @@ impl Model for Record {
 }
 
 impl Record {
-    /// Nothing was asked.
+    /// The record of a disk's file of which nothing was asked.
     pub(super) fn new() -> Record
         ensures { result.calls ≡ [] }
     {
@@ -39,7 +39,7 @@ impl Record {
         }
     }
 
-    /// The same calls, and one after them.
+    /// The same calls on a disk's file in the record, and one after them.
     pub(super) fn and(&self, _note: &Note, _bytes: &[u8]) -> Record
         ensures { result.calls ≡ event_of_note _note.now _bytes.now ∷ self.now.calls }
     {

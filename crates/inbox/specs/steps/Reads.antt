@@ -8,6 +8,6 @@ module _ {K : Type 0} (R : K → K → Ordering) where
   abbrev pub ReadsInOrder : List K → List ℕ → Type 0
   ReadsInOrder A positions = map (λ p. slice_get A p) positions ≡ map Some (in_order R A)
 
--- the position at place i reads the item x of A
+-- the position at place i of an inbox's order reads the item x of A
 abbrev pub ReadsAt : {K : Type 0} → List K → List ℕ → ℕ → K → Type 0
 ReadsAt A positions i x = (p : ℕ) × (slice_get positions i ≡ Some p) × (slice_get A p ≡ Some x)

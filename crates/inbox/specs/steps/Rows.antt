@@ -5,26 +5,26 @@ use Rattle.std.specs.Ordering.{ordering_then}
 use Rattle.attributes.specs.Bytes.{byte_cmp}
 use Rattle.attributes.specs.Event.{EventValue, id_of, source_of, text}
 
--- a source, an id and a text
+-- what key order compares: a source, an id and a text
 abbrev pub Row : Type 0
 Row = List ℕ × List ℕ × List ℕ
 
--- the source, the id and the canonical text of an event
+-- what key order compares of an event: its source, its id and its canonical text
 abbrev pub row_of : EventValue → Row
 row_of e = (source_of e, id_of e, text e)
 
--- by source, then id
+-- rows in part of key order: by source, then id
 abbrev pub pair_rows : Row → Row → Ordering
 pair_rows r s = ordering_then (byte_cmp r.0 s.0) (byte_cmp r.1 s.1)
 
--- by text
+-- rows in part of key order: by text
 abbrev pub text_rows : Row → Row → Ordering
 text_rows r s = byte_cmp r.2 s.2
 
--- in key order
+-- rows of source, id and text in key order
 abbrev pub row_cmp : Row → Row → Ordering
 row_cmp r s = ordering_then (pair_rows r s) (text_rows r s)
 
--- how an event stands to a source, an id and a text
+-- how an event of the inbox stands to a source, an id and a text in key order
 abbrev pub probe : List ℕ → List ℕ → List ℕ → EventValue → Ordering
 probe source id text e = row_cmp (row_of e) (source, id, text)

@@ -18,19 +18,19 @@ use Rattle.inbox_table.specs.Version.{HasTable}
 use Rattle.inbox_table.specs.declared.version.Version.{Version}
 use Rattle.inbox_table.specs.declared.version.Version.TheVariants.{One, Two}
 
--- the schema has the table in this version
+-- the schema has the inbox's table in this version
 abbrev pub HasVersion : Version → Schema → Type 0
 HasVersion v schema = (l : Layout) × HasTable v l × (schema ≡ schema_in l)
 
--- while the disk is honest and the database open, nothing changed
+-- while the disk is honest and the database open, a reading of the inbox's table changed nothing
 pub record IsTableReading (old new : State) : Type 0 where
   pub clean : doubt old.is_clean ≤ doubt new.is_clean
   pub was_open : HasCleanDisk new → IsTrue new.is_open → IsTrue old.is_open
   pub same : HasCleanDisk new → IsTrue new.is_open
       → (new.now ≡ old.now) × (new.committed ≡ old.committed)
 
--- what was read of the table in this version: how many rows it has, and those of its events that
--- were wanted
+-- what was read of the inbox's table in this version: how many rows it has, and those of its events
+-- that were wanted
 pub record TellsRows (v : Version) (wanted : EventValue → Bool) (db : Database) (rows : ℕ)
     (batch : List EventValue) : Type 0 where
   pub events : List EventValue
@@ -39,15 +39,15 @@ pub record TellsRows (v : Version) (wanted : EventValue → Bool) (db : Database
   pub count : rows ≡ length events
   pub kept : batch ≡ filter wanted events
 
--- the question for all rows is asked of a database with the table, and has given none so far
+-- the question for all rows is asked of a database with the inbox's table, and gave none so far
 pub record IsAtStart {S : Type 0} (v : Version) (g : Ghosts S) (h : Held S) : Type 0 where
   pub ours : HasVersion v (state g h).now.schema
   pub live : IsDatabase (state g h).now
   pub given : HasGiven g (select_text v) [] h []
   pub is_open : IsTrue (state g h).is_open
 
--- since then nothing changed, and the rows so far are those of events at the places before this
--- one, of which the batch has those that are wanted
+-- since the question was asked nothing changed, and the inbox's rows so far are those of events at
+-- the places before this one, of which the batch has those that are wanted
 pub record HasRead {S : Type 0} (v : Version) (g : Ghosts S) (start now : Held S)
     (wanted : EventValue → Bool) (place : ℕ) (batch : List EventValue) : Type 0 where
   pub events : List EventValue
@@ -57,7 +57,7 @@ pub record HasRead {S : Type 0} (v : Version) (g : Ghosts S) (start now : Held S
   pub count : place ≡ suc (length events)
   pub kept : batch ≡ filter wanted events
 
--- behind its first five values a shown row has those that the version has more
+-- behind its first five values a row of the inbox's table has those that the version has more
 abbrev pub HasTail : Version → ℕ → Row → Type 0
 HasTail One number row = length row ≡ 5
 HasTail Two number row = (length row ≡ 6) × (column row 5 ≡ Int (pos (number / 1024)))

@@ -16,18 +16,18 @@ use Rattle.inbox_table.specs.Calls.{AreFreshEach, joined}
 use Rattle.inbox_table.specs.Rows.{AreNumbered, IsEachOnce, rows_from}
 use Rattle.inbox_table.specs.declared.version.Version.TheVariants.{Two}
 
--- where events are put in: the table of a layout, or one that an upgrade made beside that of
--- version 1
+-- where events are put into an inbox: the table of a layout, or one that an upgrade made beside
+-- that of version 1
 pub data Home : Type 0 where
   At : Layout → Home
   Beside : Layout → Home
 
--- there is such a table
+-- there is such a table for the inbox's events
 abbrev pub IsHome : Home → Type 0
 IsHome (At l) = HasInbox2 l
 IsHome (Beside l) = HasInbox l
 
--- the schema with it, and its tree
+-- the schema with that inbox's table, and its tree
 abbrev pub schema_at : Home → Schema
 schema_at (At l) = schema_in l
 schema_at (Beside l) = both_in l
@@ -36,7 +36,7 @@ abbrev pub tree_at : Home → ℕ
 tree_at (At l) = inbox_tree l
 tree_at (Beside l) = inbox_tree (upgraded l)
 
--- these events stand in it
+-- these events stand in that inbox's table
 pub record IsFilled (h : Home) (db : Database) (events : List EventValue) : Type 0 where
   pub home : IsHome h
   pub schema : db.schema ≡ schema_at h
@@ -44,12 +44,12 @@ pub record IsFilled (h : Home) (db : Database) (events : List EventValue) : Type
   pub numbered : AreNumbered events
   pub once : IsEachOnce events
 
--- each of these tables but that in the tree has the rows that it had
+-- each of these tables but the inbox's in the tree has the rows that it had
 abbrev pub KeepsOthers : List Table → ℕ → Trees → Trees → Type 0
 KeepsOthers tables tree old new =
     AllByRecursion (λ t. t.tree ≢ tree → new t.tree ≡ old t.tree) tables
 
--- within a transaction the event is put in at the place behind the last, unless it is there
+-- within a transaction the event is put into the inbox at the place behind the last, unless there
 pub record Puts (place : ℕ) (e : EventValue) (old new : State) (is_new : Bool) : Type 0 where
   pub table : (h : Home) (events : List EventValue) → IsFilled h old.now events
       → place ≡ suc (length events)
@@ -61,7 +61,7 @@ pub record Puts (place : ℕ) (e : EventValue) (old new : State) (is_new : Bool)
   pub committed : new.committed ≡ old.committed
   pub mode : IsTrue new.in_transaction
 
--- what is there once events of `all` were put in behind so many rows, and these are left
+-- the inbox once events of `all` were put in behind so many rows, and these are left
 pub record IsTaking (h : Home) (rows : ℕ) (all left events : List EventValue) (old now : Database)
     (fresh : ℕ) : Type 0 where
   pub held : List EventValue
@@ -71,7 +71,7 @@ pub record IsTaking (h : Home) (rows : ℕ) (all left events : List EventValue) 
   pub sound : IsDatabase old → IsDatabase now
   pub others : KeepsOthers (schema_at h).tables (tree_at h) old.trees now.trees
 
--- since the transaction began, events of `all` were put in, and these are left
+-- since the transaction began, events of `all` were put into the inbox's table, and these are left
 pub record IsKeeping (rows : ℕ) (all left : List EventValue) (old now : State) (fresh : ℕ)
     : Type 0 where
   pub table : (h : Home) (events : List EventValue) → IsFilled h old.now events
@@ -80,7 +80,7 @@ pub record IsKeeping (rows : ℕ) (all left : List EventValue) (old now : State)
   pub committed : now.committed ≡ old.committed
   pub mode : IsTrue now.in_transaction
 
--- what is there once the events of lists were put in behind so many rows, and these lists are left
+-- the inbox once the events of lists were put in behind so many rows, and these lists are left
 pub record IsTakingEach (h : Home) (rows : ℕ) (all left : List (List EventValue))
     (events : List EventValue) (old now : Database) (fresh : ℕ) (each : List ℕ) : Type 0 where
   pub held : List EventValue
@@ -93,7 +93,7 @@ pub record IsTakingEach (h : Home) (rows : ℕ) (all left : List (List EventValu
   pub sound : IsDatabase old → IsDatabase now
   pub others : KeepsOthers (schema_at h).tables (tree_at h) old.trees now.trees
 
--- since the transaction began, the events of lists were put in, and these lists are left
+-- since the transaction began, the events of lists were put into the inbox; these lists are left
 pub record IsKeepingEach (rows : ℕ) (all left : List (List EventValue)) (old now : State)
     (fresh : ℕ) (each : List ℕ) : Type 0 where
   pub table : (h : Home) (events : List EventValue) → IsFilled h old.now events

@@ -7,7 +7,7 @@ use Rattle.inbox_table.specs.Beside.{UpgradesTables}
 use Rattle.inbox_table.specs.Calls.{Adopts}
 use Rattle.inbox_table.specs.Rows.{AreNumbered, IsEachOnce, IsInbox}
 
--- within a transaction a table of version 2 with these events took the place of one of version 1
+-- within a transaction an inbox of version 2 with these events took the place of one of version 1
 pub record Refills (events : List EventValue) (old new : State) : Type 0 where
   pub table : AreNumbered events → IsEachOnce events → IsInbox new.now events
   pub beside : UpgradesTables old.now new.now
@@ -16,15 +16,15 @@ pub record Refills (events : List EventValue) (old new : State) : Type 0 where
   pub committed : new.committed ≡ old.committed
   pub mode : IsTrue new.in_transaction
 
--- and so it was committed
+-- and so the upgrade of the inbox's table was committed
 pub record Copies (events : List EventValue) (old : Database) (new : State) : Type 0 where
   pub table : IsInbox new.now events
   pub beside : UpgradesTables old new.now
   pub stays_open : IsTrue new.is_open
   pub committed : new.committed ≡ new.now
 
--- a table was taken over that has so many rows; the batch has their events where these were to be
--- kept
+-- an inbox's table was taken over that has so many rows; the batch has their events where these
+-- were to be kept
 pub record HasAdopted (keeps : Bool) (old new : State) (rows : ℕ) (batch : List EventValue)
     : Type 0 where
   pub events : List EventValue

@@ -31,7 +31,7 @@ module _ {Y : Type 0} where
       → List (Entity × Rows)
   entities_in es = map (λ e. (entity_in e.0, rows_in e.1)) es
 
--- what the keys of three tables are hashed by
+-- what the keys of the three kept tables are hashed by
 abbrev pub states_in : {K L M U V W : Type 0} → IndexMap K U Seed → IndexMap L V Seed
     → IndexMap M W Seed → List (Option RandomState)
 states_in k d e =

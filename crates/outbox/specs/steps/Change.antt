@@ -11,21 +11,21 @@ use Rattle.database_layout.specs.Beside.{KeepsBeside}
 use Rattle.outbox.specs.Service.{IsService, code}
 use Rattle.outbox.specs.declared.status.Status.{Status}
 
--- the database of a service has one more command, and the inbox beside it is as it was
+-- the database of an outbox has one more command, and the inbox beside it is as it was
 pub record HasAdded (source : List ℕ) (base : ℕ) (commands : List Accepted) (c : Accepted)
     (old new : Database) : Type 0 where
   pub service : IsService new source base (commands ++ c ∷ [])
   pub beside : KeepsBeside old new
   pub sound : IsDatabase new
 
--- whatever commands the service accepted
+-- an outbox's database has one more command, whatever commands the service accepted
 abbrev pub AddsCommand : ℕ → Accepted → Database → Database → Type 0
 AddsCommand number c old new = (source : List ℕ) (base : ℕ) (commands : List Accepted)
     → number ≡ suc (base + length commands) → IsCommand c
     → refusal base commands c.status c.order ≡ None
     → IsService old source base commands → HasAdded source base commands c old new
 
--- what a crash may find in place of the old commit
+-- what a crash may find in place of the old commit while an outbox adds a command
 abbrev pub MayAdd : ℕ → Accepted → State → Trees → Type 0
 MayAdd number c old trees = (db : Database) × AddsCommand number c old.now db × (trees ≡ db.trees)
 
@@ -48,7 +48,7 @@ stored_rows number (c ∷ commands) = stored_row number c ∷ stored_rows (suc n
 abbrev pub stored_order : ℕ → Status → Row
 stored_order order status = Int (pos order) ∷ Int (pos (code status)) ∷ []
 
--- the row of `service` as it is read
+-- the row of an outbox's `service` as it is read
 abbrev pub shown_service : List ℕ → ℕ → Row
 shown_service source base = Int (pos 1) ∷ Words source ∷ Int (pos base) ∷ []
 

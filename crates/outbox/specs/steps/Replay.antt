@@ -11,8 +11,8 @@ use Rattle.outbox.specs.steps.Change.{stored_rows, stored_order}
 use Rattle.sqlite_rules.specs.Lists.{Has}
 use Rattle.outbox.specs.declared.adoption.Replayed.{Replayed}
 
--- the rows are those of commands, each accepted after those before it, and these are the statuses,
--- how many orders there are, and the last number
+-- the outbox rows are those of commands, each accepted after those before it, and these are the
+-- statuses, how many orders there are, and the last number
 pub record IsReplay (base : ℕ) (rows : List Row) (r : Replayed) : Type 0 where
   pub commands : List Accepted
   pub rows_are : rows ≡ stored_rows (suc base) commands
@@ -21,7 +21,7 @@ pub record IsReplay (base : ℕ) (rows : List Row) (r : Replayed) : Type 0 where
   pub orders : r.orders ≡ length (orders_of commands)
   pub last : r.last ≡ base + length commands
 
--- the same of the first rows
+-- a replay so far: of the first outbox rows the same holds as in the end of all
 pub record HasReplayed (base : ℕ) (rows : List Row) (at : ℕ) (m : BTreeMap ℕ Status)
     (orders last : ℕ) : Type 0 where
   pub commands : List Accepted
@@ -33,7 +33,7 @@ pub record HasReplayed (base : ℕ) (rows : List Row) (at : ℕ) (m : BTreeMap �
   pub last_is : last ≡ base + length commands
   pub high : last ≤ max_sequence
 
--- of the statuses, these are left, and just the others have their rows among the first
+-- of the orders' statuses, these are left, and just the others have their rows among the first
 pub record HasMatched (rows : List Row) (at : ℕ) (all left : BTreeMap ℕ Status) : Type 0 where
   pub sound : (r : Row) → Has (take at rows) r
       → (order : ℕ) × (status : Status)

@@ -22,13 +22,13 @@ abbrev pub IsClosed : {R : Type 0} → (R → R → Type 0) → R → Lane R →
 IsClosed has_failed before lane =
     MatchOption lane.fault (lane.route ≡ before) (HasCauseOfFault has_failed before lane.route)
 
--- the calls that a lane made of late: one for each page that was accepted, and the one that failed
+-- a lane's calls to its route of late: one for each page that was accepted, and the one that failed
 abbrev pub calls_to : Option RelayFault → ℕ → ℕ
 calls_to None pages = pages
 calls_to (Some f) pages = calls_until (Failed f) pages
 
 -- the route of a lane that went on was handed these pages and then nothing more, but for one that
--- failed where the lane stopped for it. AllAtPlaces was a call that the gate let through, after the calls
+-- failed where the lane stopped for it. Each was a call that the gate let through, after the calls
 -- before
 pub record Hands {R : Type 0} (takes : R → List EventValue → R → Type 0)
     (has_failed : R → R → Type 0) (lets shuts heard : ℕ → ℕ → Type 0) (old new : Lane R)
@@ -41,7 +41,7 @@ pub record Hands {R : Type 0} (takes : R → List EventValue → R → Type 0)
   pub through : LetsThrough lets heard old.place old.calls (calls_to new.fault (length pages))
   pub shut : new.fault ≡ Some GateShut → shuts old.place (old.calls + length pages + 1)
 
--- a lane that went on was handed pages of which this holds
+-- a lane to a route that went on was handed pages of which this holds
 abbrev pub HandsOver : {R : Type 0} → (R → List EventValue → R → Type 0) → (R → R → Type 0)
     → (ℕ → ℕ → Type 0) → (ℕ → ℕ → Type 0) → (ℕ → ℕ → Type 0)
     → (List (List EventValue) → Type 0) → Lane R → Lane R → Type 0
@@ -49,15 +49,15 @@ HandsOver takes has_failed lets shuts heard Fits old new = old.fault ≡ None
     → (pages : List (List EventValue))
     × (Hands takes has_failed lets shuts heard old new pages × Fits pages)
 
--- any pages, where nothing is said of the rows
+-- any pages for a route, where nothing is said of the rows
 abbrev pub AreAny : List (List EventValue) → Type 0
 AreAny pages = ⊤
 
--- the pages are the rows between the marks
+-- the pages sent to a route are the rows between the relay's marks
 abbrev pub AreBetween : ℕ → List EventValue → ℕ → ℕ → List (List EventValue) → Type 0
 AreBetween base rows from to pages = joined pages ≡ rows_between base rows from to
 
--- a lane before and after, whatever its rows are
+-- a lane to a route before and after, whatever its rows are
 pub record MovesLane {R : Type 0} (accepted : R → List EventValue)
     (takes : R → List EventValue → R → Type 0) (has_failed : R → R → Type 0)
     (lets shuts heard : ℕ → ℕ → Type 0) (old new : Lane R) : Type 0 where
@@ -68,7 +68,7 @@ pub record MovesLane {R : Type 0} (accepted : R → List EventValue)
   pub handed : HandsOver takes has_failed lets shuts heard AreAny old new
   pub idle : IsSome old.fault → new ≡ old
 
--- a lane before and after rows, a window of them or all, whose numbers are those after `start`
+-- a route's lane before and after rows, a window or all, whose numbers are those after `start`
 pub record Carries {R : Type 0} (accepted : R → List EventValue)
     (takes : R → List EventValue → R → Type 0) (has_failed : R → R → Type 0)
     (lets shuts heard : ℕ → ℕ → Type 0) (start : ℕ) (rows : List EventValue) (old new : Lane R)
@@ -92,7 +92,7 @@ FailsAt has_failed lets shuts heard worker call old new Store = ⊥
 FailsAt has_failed lets shuts heard worker call old new NoThread = ⊥
 FailsAt has_failed lets shuts heard worker call old new GateShut = (new ≡ old) × shuts worker call
 
--- it never came to a call: memory, the rows or a thread weren't to be had
+-- a lane never came to a call of its route: memory, the rows or a thread weren't to be had
 abbrev pub IsQuiet : RelayFault → Type 0
 IsQuiet f = (f ≡ OutOfMemory) ⊎ ((f ≡ Store) ⊎ (f ≡ NoThread))
 
@@ -101,41 +101,41 @@ abbrev pub steps_left : Option RelayFault → ℕ → ℕ
 steps_left None numbers = suc numbers
 steps_left (Some f) numbers = 0
 
--- how many steps a lane takes at most to the end of a window
+-- how many steps a route's lane takes at most to the end of its window
 abbrev pub left : {R : Type 0} → ℕ → List EventValue → Lane R → ℕ
 left start rows lane = steps_left lane.fault (start + length rows - lane.relay.mark)
 
--- the two lists have one length, and this holds at each place
+-- the two lists of a fan-out have one length, and this holds at each place
 abbrev pub AllAtPlaces : {A : Type 0} → {B : Type 0} → (A → B → Type 0) → List A → List B → Type 0
 AllAtPlaces Holds [] [] = ⊤
 AllAtPlaces Holds [] (y ∷ ys) = ⊥
 AllAtPlaces Holds (x ∷ xs) [] = ⊥
 AllAtPlaces Holds (x ∷ xs) (y ∷ ys) = Holds x y × AllAtPlaces Holds xs ys
 
--- some of the next rows after `start`, and none only where there are none
+-- a relay's window: some of the next rows after `start`, and none only where there are none
 pub record IsWindow (base : ℕ) (all : List EventValue) (start : ℕ) (rows : List EventValue)
     : Type 0 where
   pub rest : List EventValue
   pub whole : drop (start - base) all ≡ rows ++ rest
   pub last : rows ≡ [] → rest ≡ []
 
--- this window is one of the service's rows
+-- this relay's window is one of the service's rows
 abbrev pub ShowsWindow : List ℕ → ℕ → ℕ → Database → List EventValue → Type 0
 ShowsWindow source base start db rows = (commands : List Accepted)
     → IsService db source base commands → IsWindow base (rows_of source base commands) start rows
 
--- while the disk is honest and the database open, it is what it was, if that was a service's
+-- the relay's database is what it was, if a service's, while the disk is honest and it is open
 abbrev pub IsStill : Database → State → Type 0
 IsStill db s = HasCleanDisk s → IsTrue s.is_open → (layout : ServiceLayout)
     → db.schema ≡ schema_in_layout layout → s.now ≡ db
 
--- this holds of the rows of the service that a database stands for, while the disk is honest up to
--- this state
+-- for a relay: this holds of the rows of the service that a database stands for, while the disk is
+-- honest up to this state
 abbrev pub Honestly : List ℕ → ℕ → Database → State → (List EventValue → Type 0) → Type 0
 Honestly source base db s Holds = HasCleanDisk s → (commands : List Accepted)
     → IsService db source base commands → Holds (rows_of source base commands)
 
--- a lane before and after, over the rows of the service
+-- a lane to a route before and after, over the rows of the service
 pub record Comes {R : Type 0} (accepted : R → List EventValue)
     (takes : R → List EventValue → R → Type 0) (has_failed : R → R → Type 0)
     (lets shuts heard : ℕ → ℕ → Type 0) (source : List ℕ) (base : ℕ) (db : Database)
@@ -144,7 +144,7 @@ pub record Comes {R : Type 0} (accepted : R → List EventValue)
   pub carries : Honestly source base db s (λ rows.
       Carries accepted takes has_failed lets shuts heard base rows old new)
 
--- so it went on to its end: if it didn't stop, no row is left
+-- a route's lane went on to its end: if it didn't stop, no row is left
 pub record Rests {R : Type 0} (accepted : R → List EventValue)
     (takes : R → List EventValue → R → Type 0) (has_failed : R → R → Type 0)
     (lets shuts heard : ℕ → ℕ → Type 0) (source : List ℕ) (base : ℕ) (db : Database)
@@ -152,7 +152,7 @@ pub record Rests {R : Type 0} (accepted : R → List EventValue)
   pub comes : Comes accepted takes has_failed lets shuts heard source base db s old new
   pub done : new.fault ≡ None → Honestly source base db s (λ rows. IsAtEnd base rows new.relay.mark)
 
--- how a lane ended
+-- how a lane to a route ended
 abbrev pub end_after : Option RelayFault → End
 end_after None = Done
 end_after (Some f) = Failed f
@@ -160,7 +160,7 @@ end_after (Some f) = Failed f
 abbrev pub end_of_lane : {R : Type 0} → Lane R → End
 end_of_lane lane = end_after lane.fault
 
--- the lanes stand in their order, the first at this place
+-- a fan-out's lanes stand in their order, the first at this place
 abbrev pub ArePlaced : {R : Type 0} → ℕ → List (Lane R) → Type 0
 ArePlaced place [] = ⊤
 ArePlaced place (x ∷ xs) = (x.place ≡ place) × ArePlaced (suc place) xs

@@ -8,7 +8,7 @@ use Rattle.relay.specs.declared.fan.lane.Lane.{Lane}
 use Rattle.relay.specs.declared.fan.slot.Slot.{Slot}
 use Rattle.relay.specs.declared.fan.slot.Slot.TheVariants.{Waiting, Busy, Ended, Taken}
 
--- a worker was given this lane and window, or the lane is back, carried over it
+-- a fan-out's worker was given this lane and window, or the lane is back, carried over it
 abbrev pub Starts : {R : Type 0} → {G : Type 0} → (R → List EventValue)
     → (R → List EventValue → R → Type 0) → (R → R → Type 0) → (G → ℕ → ℕ → Type 0)
     → (G → ℕ → ℕ → Type 0) → (G → ℕ → ℕ → Type 0) → G → ℕ → List EventValue → Lane R
@@ -21,7 +21,7 @@ Starts accepted takes has_failed lets shuts heard gate start rows lane (Busy han
 Starts accepted takes has_failed lets shuts heard gate start rows lane (Ended back) = ⊥
 Starts accepted takes has_failed lets shuts heard gate start rows lane Taken = ⊥
 
--- the lane was here, or its worker carried it over the window that it was given
+-- the route's lane was here, or its worker carried it over the window that it was given
 abbrev pub Lands : {R : Type 0} → {G : Type 0} → (R → List EventValue)
     → (R → List EventValue → R → Type 0) → (R → R → Type 0) → (G → ℕ → ℕ → Type 0)
     → (G → ℕ → ℕ → Type 0) → (G → ℕ → ℕ → Type 0) → Slot R G → Lane R → Type 0
@@ -33,8 +33,8 @@ Lands accepted takes has_failed lets shuts heard (Busy handle) back =
 Lands accepted takes has_failed lets shuts heard (Ended lane) back = ⊥
 Lands accepted takes has_failed lets shuts heard Taken back = ⊥
 
--- the lane here, or what its worker was given, comes of that lane: a worker was given a window from
--- its mark on
+-- the lane of a route, here or as its worker was given it, comes of that lane: a worker was given a
+-- window from its mark on
 abbrev pub IsOf : {R : Type 0} → {G : Type 0} → (R → List EventValue)
     → (R → List EventValue → R → Type 0) → (R → R → Type 0) → (G → ℕ → ℕ → Type 0)
     → (G → ℕ → ℕ → Type 0) → (G → ℕ → ℕ → Type 0) → G → List ℕ → ℕ → Database → State → Lane R
@@ -53,6 +53,6 @@ IsOf accepted takes has_failed lets shuts heard gate source base db s old (Ended
     Rests accepted takes has_failed (lets gate) (shuts gate) (heard gate) source base db s old lane
 IsOf accepted takes has_failed lets shuts heard gate source base db s old Taken = ⊥
 
--- its lane ended
+-- the lane of a fan-out's slot ended
 abbrev pub IsEnded : {R : Type 0} → {G : Type 0} → Slot R G → Type 0
 IsEnded {R} slot = (lane : Lane R) × (slot ≡ Ended lane)

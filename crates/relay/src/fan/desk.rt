@@ -24,7 +24,7 @@ use std::sync::atomic::AtomicBool;
 use std::thread::{Scope, Threads};
 use std::{mem, thread};
 
-/// Lets a lane that is here go on over its next window; it ends where it stopped or no row is left.
+/// Lets a route's lane that is here go on over a window; it ends if it stopped or no row is left.
 fn advance<'s, E, H: Threads + Wait + Sync, S: Alter, R: Route + Drop + Send + 's, G: Gate + Sync>(
     scope: &Scope<'s, E>,
     rt: &'s H,
@@ -59,7 +59,7 @@ fn advance<'s, E, H: Threads + Wait + Sync, S: Alter, R: Route + Drop + Send + '
     start(scope, rt, alloc, gate, done, refused, from, rows, lane)
 }
 
-/// The lane of a slot whose worker has come back; a slot whose lane ended stays as it is.
+/// The lane of a route's slot whose worker has come back; a slot whose lane ended stays as it is.
 fn finish<H: Threads, R: Route + Drop, G: Gate>(
     rt: &H,
     slot: Slot<R, G>,
@@ -75,7 +75,7 @@ fn finish<H: Threads, R: Route + Drop, G: Gate>(
     }
 }
 
-/// Lets the lane of a slot go on, once its worker has come back.
+/// Lets the lane of a route's slot go on, once its worker has come back.
 fn renew<'s, E, H: Threads + Wait + Sync, S: Alter, R: Route + Drop + Send + 's, G: Gate + Sync>(
     scope: &Scope<'s, E>,
     rt: &'s H,
@@ -101,7 +101,7 @@ fn renew<'s, E, H: Threads + Wait + Sync, S: Alter, R: Route + Drop + Send + 's,
     }
 }
 
-/// Lets the lane at this place go on, once its worker has come back.
+/// Lets the fan-out's lane at this place go on, once its worker has come back.
 fn turn<'s, E, H: Threads + Wait + Sync, S: Alter, R: Route + Drop + Send + 's, G: Gate + Sync>(
     scope: &Scope<'s, E>,
     rt: &'s H,
@@ -143,7 +143,7 @@ fn first_waiting<R: Route + Drop, G: Gate>(slots: &Vec<Slot<R, G>>) -> Option<us
     None
 }
 
-/// The first place whose lane hasn't ended.
+/// The first place whose lane to a route hasn't ended.
 fn first_open<R: Route + Drop, G: Gate>(slots: &Vec<Slot<R, G>>) -> Option<usize>
     ensures some { IfSome result (λ place. place < length slots.now.items) }
     ensures none { result ≡ None → All IsEnded slots.now.items }
@@ -157,8 +157,8 @@ fn first_open<R: Route + Drop, G: Gate>(slots: &Vec<Slot<R, G>>) -> Option<usize
     None
 }
 
-/// Whose turn it is: of a lane that is here, or else of one whose worker says that it has come
-/// back, for which it waits. No lane where all have ended.
+/// Whose turn it is in a fan-out: of a lane that is here, or else of one whose worker says that it
+/// has come back, for which it waits. No lane where all have ended.
 fn next_place<H: Wait, R: Route + Drop, G: Gate>(
     rt: &H,
     told: &Receiver<u64, Global>,
@@ -180,7 +180,7 @@ fn next_place<H: Wait, R: Route + Drop, G: Gate>(
     }
 }
 
-/// Lets the lanes go on, each as it comes back, until all have ended.
+/// Lets a fan-out's lanes go on, each as it comes back, until all have ended.
 fn run<'s, E, H: Threads + Wait + Sync, S: Alter, R: Route + Drop + Send + 's, G: Gate + Sync>(
     scope: &Scope<'s, E>,
     rt: &'s H,
@@ -231,7 +231,7 @@ struct Lent<'a, S: Alter, R: Route + Drop, G: Gate> {
     slots: Vec<Slot<R, G>>,
 }
 
-/// The same for a service that is lent to the scope of the workers' threads.
+/// Lets a fan-out's lanes go on until all have ended, for a service lent to the threads' scope.
 fn run_in_scope<'a, H: Threads + Wait + Sync, S: Alter, R: Route + Drop + Send, G: Gate + Sync>(
     rt: &H,
     alloc: Global,
@@ -291,7 +291,7 @@ fn run_in_scope<'a, H: Threads + Wait + Sync, S: Alter, R: Route + Drop + Send, 
     )
 }
 
-/// Carries the lanes over the rows of the service until each has ended, none waiting for another.
+/// Carries a fan-out's lanes over the service's rows until each has ended, none awaiting another.
 pub(super) fn run_slots<H: Threads + Wait + Sync, S: Alter, R: Route + Drop + Send, G: Gate + Sync>(
     rt: &H,
     alloc: Global,
@@ -328,7 +328,7 @@ pub(super) fn run_slots<H: Threads + Wait + Sync, S: Alter, R: Route + Drop + Se
     slots
 }
 
-/// Hands a service back as it is.
+/// Hands the service of a fan-out back as it is.
 fn keep<S: Alter>(service: &mut Service<S>)
     ensures { service.new ≡ service.old }
 {

@@ -34,7 +34,7 @@ struct Page {
     last: u64,
 }
 
-/// Copies of the rows at these places.
+/// Copies of the rows at these places, to be sent to a route.
 fn copied(alloc: Global, rows: &Batch, from: u64, to: u64) -> Result<Batch, AllocError>
     requires low { from ≤ to }
     requires high { to ≤ length rows.now }
@@ -52,7 +52,7 @@ fn copied(alloc: Global, rows: &Batch, from: u64, to: u64) -> Result<Batch, Allo
     Ok(page)
 }
 
-/// The next page after the mark, of rows that have the numbers after `start`.
+/// The relay's next page after the mark, of rows that have the numbers after `start`.
 fn next_page(alloc: Global, rows: &Batch, start: u64, mark: u64) -> Result<Page, RelayFault>
     requires { mark - start < length rows.now }
     ensures last { IfOk result (λ p. (mark < p.last) × (p.last ≤ start + length rows.now)) }
@@ -73,7 +73,7 @@ fn next_page(alloc: Global, rows: &Batch, start: u64, mark: u64) -> Result<Page,
     }
 }
 
-/// Sends a page, where the gate lets it through.
+/// Sends a page to a route, where the gate lets it through.
 fn send_page<R: Route, G: Gate>(
     gate: &G,
     worker: u64,
@@ -101,7 +101,7 @@ fn send_page<R: Route, G: Gate>(
     }
 }
 
-/// The lane, stopped for a fault that came to no call.
+/// The lane to a route, stopped for a fault that came to no call.
 pub(super) fn stopped<R: Route, G: Gate>(gate: &G, lane: Lane<R>, fault: RelayFault) -> Lane<R>
     requires going { lane.fault ≡ None }
     requires quiet { IsQuiet fault }
@@ -127,7 +127,7 @@ pub(super) fn stopped<R: Route, G: Gate>(gate: &G, lane: Lane<R>, fault: RelayFa
     }
 }
 
-/// Sends the next page of a lane that goes on, and raises its mark to the last row.
+/// Sends the next page to the route of a lane that goes on, and raises its mark to the last row.
 fn send_next<R: Route, G: Gate>(
     alloc: Global,
     rows: &Batch,
@@ -173,7 +173,7 @@ fn send_next<R: Route, G: Gate>(
     }
 }
 
-/// Sends page after page, until all rows are sent or the lane stops.
+/// Sends page after page to a route, until all rows are sent or the lane stops.
 pub(super) fn carry_lane<R: Route, G: Gate>(
     alloc: Global,
     rows: &Batch,

@@ -46,7 +46,7 @@ pub(crate) enum Slot<R: Route + Drop, G: Gate> {
     Taken,
 }
 
-/// What a worker does: it carries the lane over the window, and then tells its place.
+/// What a fan-out's worker does: it carries the lane over the window, and then tells its place.
 fn work<H: Wait, R: Route, G: Gate>(
     rt: &H,
     alloc: Global,
@@ -65,8 +65,8 @@ fn work<H: Wait, R: Route, G: Gate>(
     lane
 }
 
-/// Lets a worker carry the lane over the window, in a thread of its own. Where no thread can be
-/// made the worker's closure comes back with the lane in it; called here, it hands the lane
+/// Lets a worker carry the lane to a route over the window, in a thread of its own. Where no thread
+/// can be made the worker's closure comes back with the lane in it; called here, it hands the lane
 /// out, stopped.
 pub(super) fn start<'s, E, H: Threads + Wait + Sync, R: Route + Drop + Send + 's, G: Gate + Sync>(
     scope: &Scope<'s, E>,

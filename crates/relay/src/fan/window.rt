@@ -17,7 +17,7 @@ use sqlite::Alter;
 /// The most pages of a window: 1,000 rows.
 const MAX_PAGES: u64 = 10;
 
-/// Moves events behind others.
+/// Moves events behind others in a relay's window of rows.
 fn append_page(rows: &mut Batch, page: Batch) -> Result<(), RelayFault>
     ensures ok { OnOk result (rows.new ≡ rows.old ++ page) }
     ensures fault { IfErr result (λ f. f ≡ OutOfMemory) }
@@ -32,7 +32,7 @@ fn append_page(rows: &mut Batch, page: Batch) -> Result<(), RelayFault>
     Ok(())
 }
 
-/// Adds the next page to a window, and answers whether it was full, so that more may follow.
+/// Adds the next page to a relay's window, and answers whether it was full, so more may follow.
 fn add_page<S: Alter>(
     service: &mut Service<S>,
     start: u64,
@@ -64,7 +64,7 @@ fn add_page<S: Alter>(
     }
 }
 
-/// The next rows after a number, which the base doesn't exceed: all, or some 1,000.
+/// A relay's next rows after a number, which the base doesn't exceed: all, or some 1,000.
 pub(crate) fn read_window<S: Alter>(
     service: &mut Service<S>,
     start: u64,

@@ -6,8 +6,8 @@ use Rattle.coverage.specs.Summary.{Sources}
 use Rattle.inbox.specs.Sets.{set_of}
 use Rattle.site.specs.Delta.{AreAll, Tells, delta, lacking_of}
 
--- behind this place of key order stand those that the peer lacks but for the first so many; the own
--- summary tells which they are, and where there are places, all stand there
+-- a mark in a delta: behind this place of key order stand those that the peer lacks but for the
+-- first so many; the site's summary tells which they are; if there are places, all stand there
 pub record IsMark (A : List EventValue) (peer own : Sources) (among : Option (BTreeSet ℕ))
     (from place : ℕ) : Type 0 where
   pub all : IfSome among (AreAll (set_of A) peer)

@@ -21,7 +21,7 @@ use std::collections::BTreeSet;
 /// more, going over all in key order is quicker.
 const FEW: u64 = 16;
 
-/// Adds the place in key order of the event that came at a place.
+/// Adds the place in key order of the site's event that came at a place, for a delta.
 fn add_place(inbox: &Inbox, place: u64, found: &mut BTreeSet<u64>) -> Result<(), AllocError>
     ensures kept { OnOk result (AllIn found.old found.new) }
     ensures added { OnOk result (HasPlace inbox.now.arrivals found.new place) }
@@ -39,7 +39,7 @@ fn add_place(inbox: &Inbox, place: u64, found: &mut BTreeSet<u64>) -> Result<(),
     Ok(())
 }
 
-/// Adds the places in key order of the events that came at places.
+/// Adds the places in key order of the site's events that came at places, for a delta.
 fn add_places(inbox: &Inbox, places: &[u64], found: &mut BTreeSet<u64>) -> Result<(), AllocError>
     ensures kept { OnOk result (AllIn found.old found.new) }
     ensures added { OnOk result (HasEach inbox.now.arrivals found.new places.now) }
@@ -50,14 +50,14 @@ fn add_places(inbox: &Inbox, places: &[u64], found: &mut BTreeSet<u64>) -> Resul
     Ok(())
 }
 
-/// The first of the places from a place on.
+/// The first of the places that a delta looks at from a place on.
 fn next_from(places: &BTreeSet<u64>, place: u64) -> Option<u64>
     ensures { MatchOption result (NoPlaceFrom places.now place) (IsNextFrom places.now place) }
 {
     places.range(place..).next().copied()
 }
 
-/// The first of the places from a place on, and the length where there is none before it.
+/// The first of a delta's places from a place on, and the length where there is none before it.
 fn next_before(places: &BTreeSet<u64>, place: u64, len: u64) -> u64
     requires { place ≤ len }
     ensures later { place ≤ result }
@@ -71,8 +71,8 @@ fn next_before(places: &BTreeSet<u64>, place: u64, len: u64) -> u64
 }
 
 impl Site {
-    /// Whether the peer needs none of the events at the places of a block. The answer may be false
-    /// where it doesn't.
+    /// Whether the peer of a delta needs none of the site's events at the places of a block. The
+    /// answer may be false where it doesn't.
     fn wants_none(&self, peer: &Summary, own: &Summary, places: &[u64]) -> bool
         ensures { (source : List ℕ) (k : ℕ) → places.now ≡ places_of self.now source k
             → IsTrue result → WantsNone self.now peer.now own.now source k }
@@ -87,8 +87,8 @@ impl Site {
         peer.wants_none_beside(own, &self.summary, event.event().source(), event.number())
     }
 
-    /// Whether more events than so many stand in the blocks in which the peer differs. It spares
-    /// time: no answer rests on it. Costs a few look-ups in the summaries for each block.
+    /// Whether more of a site's events than so many stand in blocks where the peer differs. It
+    /// spares time: no answer rests on it. Costs a few look-ups in the summaries for each block.
     fn differs_in_many(&self, peer: &Summary, own: &Summary, most: u64) -> bool {
         let mut count: u64 = 0;
         for i in 0..self.blocks.len() {
@@ -130,7 +130,7 @@ impl Site {
         Some(found)
     }
 
-    /// Adds a copy of the event at a place of key order to those that go, if the peer wants it.
+    /// Adds to a delta a copy of the site's event at a place of key order, if the peer wants it.
     fn push_wanted(
         &self,
         peer: &Summary,
@@ -154,7 +154,7 @@ impl Site {
         Ok(())
     }
 
-    /// `delta_from`, which looks at the events at places of key order alone.
+    /// `delta_from`, which looks at the site's events at places of key order alone.
     fn delta_among(
         &self,
         peer: &Summary,

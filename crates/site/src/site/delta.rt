@@ -19,7 +19,7 @@ pub struct DeltaPart {
     pub next: u64,
 }
 
-/// Whether a summary wants an event of which the own summary tells.
+/// Whether a peer's summary wants an event of which the site's own summary tells.
 pub(super) fn is_wanting(peer: &Summary, own: &Summary, event: &Sequenced) -> bool
     ensures { result ≡ is_wanting peer.now own.now event.now }
 {
@@ -27,9 +27,9 @@ pub(super) fn is_wanting(peer: &Summary, own: &Summary, event: &Sequenced) -> bo
 }
 
 impl Site {
-    /// The summary that tells `delta_from` what a peer lacks: the own one of version 2, but for a
-    /// peer of version 1 the empty one, which takes no memory, since numbers alone tell then. Costs
-    /// what `summary` does, and keeps nothing.
+    /// The summary that tells `delta_from` what a peer lacks: the site's own one of version 2, but
+    /// for a peer of version 1 the empty one, which takes no memory, since numbers alone tell then.
+    /// Costs what `summary` does, and keeps nothing.
     pub fn summary_for(&self, peer: &Summary) -> Result<Summary, AllocError>
         ensures tells { IfOk result (Tells (set_of self.now) peer.now) }
         ensures err { OnErr result (version_of peer.now ≡ 2) }
@@ -45,8 +45,8 @@ impl Site {
         self.digested()
     }
 
-    /// The place in key order behind which the events that the peer lacks are all but the first
-    /// `from`.
+    /// The place in key order behind which the site's events that the peer lacks are all but the
+    /// first `from`.
     pub(super) fn place_behind(&self, peer: &Summary, own: &Summary, from: u64) -> u64
         requires tells { Tells (set_of self.now) peer.now own.now }
         ensures within { result ≤ length (set_of self.now) }

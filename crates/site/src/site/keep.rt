@@ -15,9 +15,9 @@ use kept_views::Views;
 use std::alloc::{AllocError, Global};
 use std::hash::RandomState;
 
-/// An event that isn't there comes to the views, where they are kept, before the inbox takes it at
-/// a gap of key order. Where memory is refused to them they are let go: no event is refused for
-/// their sake.
+/// An event that isn't there comes to the site's views, where they are kept, before the inbox takes
+/// it at a gap of key order. Where memory is refused to them they are let go: no event is refused
+/// for their sake.
 pub(super) fn bring(views: &mut Option<Box<Views>>, inbox: &Inbox, event: &Sequenced, gap: u64)
     requires views { IfSome views.old (λ v. AreTablesOfShown inbox.now.arrivals v.value) }
     requires new { has key_cmp inbox.now.arrivals event.now ≡ false }
@@ -41,8 +41,8 @@ pub(super) fn bring(views: &mut Option<Box<Views>>, inbox: &Inbox, event: &Seque
     }
 }
 
-/// Makes the views of what came anew, by the random state. After want of memory those that are kept
-/// stay.
+/// Makes the site's views of what came anew, by the random state. After want of memory those that
+/// are kept stay.
 fn renew(
     views: &mut Option<Box<Views>>,
     alloc: Global,

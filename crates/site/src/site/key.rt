@@ -11,7 +11,7 @@ use attributes::Batch;
 use std::alloc::AllocError;
 
 impl Site {
-    /// Copies of the n events from a place of key order on.
+    /// Copies of the site's n events from a place of key order on.
     fn copies(&self, place: u64, n: u64) -> Result<Batch, AllocError>
         requires fits { place + n ≤ length (set_of self.now) }
         ensures { IfOk result (λ batch. batch ≡ take n (drop place (set_of self.now))) }
@@ -25,8 +25,8 @@ impl Site {
         Ok(batch)
     }
 
-    /// Copies of the events of a source and an id in the order of their texts: none, the one, or
-    /// those of a conflict, of which the first is the one that is shown. The time is that of two
+    /// Copies of a site's events of a source and an id in the order of their texts: none, the one,
+    /// or those of a conflict, of which the first is the one that is shown. The time is that of two
     /// searches among all events, and of the copies.
     pub fn get(&self, source: &str, id: &str) -> Result<Batch, AllocError>
         ensures events { IfOk result (λ batch. batch ≡ with_key source.now id.now (set_of self.now)) }

@@ -25,7 +25,7 @@ pub(super) struct Mark {
     pub(super) place: u64,
 }
 
-/// A mark in a box; none where memory is refused.
+/// A mark in a peer's delta, in a box; none where memory is refused.
 fn boxed(alloc: Global, mark: Mark) -> Option<Box<Mark>>
     ensures { IfSome result (λ m. m.value ≡ mark) }
 {
@@ -33,7 +33,7 @@ fn boxed(alloc: Global, mark: Mark) -> Option<Box<Mark>>
 }
 
 impl Site {
-    /// A mark behind the first `from` events that the peer lacks.
+    /// A mark for the delta's pages behind the first `from` events that the peer lacks.
     fn marked(&mut self, peer: &Summary, from: u64) -> Result<Mark, AllocError>
         ensures same { self.new ≡ self.old }
         ensures from { IfOk result (λ m. m.from ≡ from) }
@@ -55,8 +55,8 @@ impl Site {
         })
     }
 
-    /// The mark that is kept where it is the peer's, behind as many events, and else a new one;
-    /// none where memory is refused.
+    /// The mark in a delta that the site keeps where it is the peer's, behind as many events, and
+    /// else a new one; none where memory is refused.
     fn mark_at(&mut self, peer: &Summary, from: u64) -> Option<Mark>
         ensures same { self.new ≡ self.old }
         ensures from { IfSome result (λ m. m.from ≡ from) }

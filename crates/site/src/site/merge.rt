@@ -14,7 +14,7 @@ use inbox::{Counts, Short};
 use std::alloc::AllocError;
 
 impl Site {
-    /// Takes a copy of an event, unless it is there.
+    /// The site takes a copy of an event, unless it is there.
     fn take_copy(&mut self, event: &Sequenced) -> Result<(), AllocError>
         ensures arrivals { OnOk result (self.new ≡ append_new key_cmp self.old (event.now ∷ [])) }
         ensures set { OnOk result (set_of self.new ≡ union (set_of self.old) (event.now ∷ [])) }
@@ -39,9 +39,9 @@ impl Site {
         Ok(())
     }
 
-    /// Takes copies of the events of a batch, which stays as it is, from its front on. Those that are
-    /// there are not copied, and need no memory. After want of memory those before it stay. The time
-    /// is that of `take_batch`, and one search more for each new event.
+    /// The site takes copies of the events of a batch, which stays as it is, from its front on.
+    /// Those that are there are not copied, and need no memory. After want of memory those before
+    /// it stay. The time is that of `take_batch`, and one search more for each new event.
     pub fn take_copies(&mut self, batch: &Batch) -> Result<Counts, Short>
         ensures brings { Brings self.old self.new batch.now result }
         ensures short_taken { IfErr result (λ s. s.taken < length batch.now) }

@@ -12,9 +12,9 @@ use std::alloc::AllocError;
 pub const MAX_PAGE: u64 = 100;
 
 impl Site {
-    /// The events at the places from `from` on in key order, `limit` of them at most: 1 to 100.
-    /// Events are never removed, so whoever goes on from the place that was reached skips none that
-    /// was there before. Time and memory in proportion to what is answered.
+    /// A page of a site: the events at the places from `from` on in key order, `limit` of them at
+    /// most: 1 to 100. Events are never removed, so whoever goes on from the place that was reached
+    /// skips none that was there before. Time and memory in proportion to the answer.
     pub fn page(&self, from: u64, limit: u64) -> Result<Batch, AllocError>
         requires low { 1 ≤ limit }
         requires high { limit ≤ max_page }
@@ -32,8 +32,8 @@ impl Site {
         Ok(batch)
     }
 
-    /// The events that came after the first n, in the order in which they came, `limit` of them at
-    /// most: 1 to 100. Time and memory in proportion to what is answered.
+    /// The events that came to the site after the first n, in the order in which they came, `limit`
+    /// of them at most: 1 to 100. Time and memory in proportion to what is answered.
     pub fn arrivals_after(&self, n: u64, limit: u64) -> Result<Batch, AllocError>
         requires low { 1 ≤ limit }
         requires high { limit ≤ max_page }

@@ -30,7 +30,7 @@ impl Site {
         self.digested()
     }
 
-    /// Makes the digests of the blocks to which events came since theirs were made.
+    /// Makes the digests of the site's blocks to which events came since theirs were made.
     pub(super) fn mend(&mut self) -> Result<(), AllocError>
         ensures same { self.new ≡ self.old }
         ensures err { OnErr result (set_of self.old ≢ []) }
@@ -43,7 +43,7 @@ impl Site {
         self.blocks.mend(&self.inbox)
     }
 
-    /// `summary`, which keeps no digest that it makes.
+    /// The site's `summary`, which keeps no digest that it makes.
     pub(super) fn digested(&self) -> Result<Summary, AllocError>
         ensures digests { IfOk result (Digests (set_of self.now)) }
         ensures err { OnErr result (set_of self.now ≢ []) }
@@ -57,8 +57,8 @@ impl Site {
         self.summary.digested(&self.blocks, &self.inbox)
     }
 
-    /// Which numbers the events of each source have, version 1: a copy of what is kept as events
-    /// come. Time and memory in proportion to the sources and their intervals.
+    /// Which numbers the site's events of each source have, version 1: a copy of what is kept as
+    /// events come. Time and memory in proportion to the sources and their intervals.
     fn numbers(&self) -> Result<Summary, AllocError>
         ensures sums { IfOk result (Sums (set_of self.now)) }
         ensures err { OnErr result (set_of self.now ≢ []) }
@@ -72,7 +72,7 @@ impl Site {
         self.summary.copy()
     }
 
-    /// The answer to a question from the views, where they are kept, else from scratch.
+    /// The site's answer to a question from the views, where they are kept, else from scratch.
     fn viewed(&self, query: Query) -> Result<Answer, AllocError>
         ensures query { IfOk result (λ a. query_of a ≡ query) }
         ensures answer { IfOk result (IsTrueOf (set_of self.now)) }
@@ -85,9 +85,9 @@ impl Site {
         }
     }
 
-    /// The answer to a question about the set. `Cover` is answered by a summary of version 1,
-    /// a copy of what is kept as events come; each other question costs what `Views::answer` does
-    /// where views are kept, and else what `views::answer` does.
+    /// The site's answer to a question about its set. `Cover` is answered by a summary of version
+    /// 1, a copy of what is kept as events come; each other question costs what `Views::answer`
+    /// does where views are kept, and else what `views::answer` does.
     pub fn query(&self, query: Query) -> Result<Answer, AllocError>
         ensures query { IfOk result (λ a. query_of a ≡ query) }
         ensures answer { IfOk result (IsTrueOf (set_of self.now)) }
@@ -102,9 +102,9 @@ impl Site {
         }
     }
 
-    /// The lines of the answer to a question about the set: what `views::print` makes of `query`,
-    /// but shown events and conflicts are printed where they stand, without a copy of each, and so
-    /// are the latest events where no views are kept.
+    /// The lines of the answer to a question about a site's set: what `views::print` makes of
+    /// `query`, but shown events and conflicts are printed where they stand, without a copy of
+    /// each, and so are the latest events where no views are kept.
     pub fn lines(&self, query: Query) -> Result<Text, AllocError>
         ensures lines { IfOk result (IsAnswer query (set_of self.now)) }
 

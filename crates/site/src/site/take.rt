@@ -22,9 +22,9 @@ use inbox::{Counts, Inbox, Short};
 use kept_views::Views;
 use std::alloc::AllocError;
 
-/// Makes all that a new event, which goes in at a gap of key order, needs to grow: room for it, its
-/// place in its block, its number in the summary, and what the views have of it, where they are
-/// kept.
+/// Makes all that a new event of a site, which goes in at a gap of key order, needs to grow: room
+/// for it, its place in its block, its number in the summary, and what the views have of it, where
+/// they are kept.
 pub(super) fn grow(
     inbox: &mut Inbox,
     summary: &mut Summary,
@@ -80,7 +80,7 @@ pub(super) fn grow(
 }
 
 impl Site {
-    /// Takes the first event of a batch. What is there needs no memory.
+    /// The site takes the first event of a batch. What is there needs no memory.
     fn take_next(&mut self, batch: &mut Batch) -> Result<(), AllocError>
         requires { 0 < length batch.old }
         ensures arrivals { OnOk result

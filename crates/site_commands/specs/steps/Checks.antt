@@ -2,7 +2,7 @@
 use Rattle.std.specs.Prelude.{◌≡◌, ◌≢◌, ◌⊎◌, ℕ, Bool, true, false, List, [], ◌++◌, Option}
 use Rattle.site_commands.specs.Checks.{AreFaultsOf, TellsGiven}
 
--- the text tells of the database and of what is at fault in these contents, and whether nothing is
+-- `check` tells of the database and of what is at fault in these contents, and whether nothing is
 pub record FindsIn (is_for_number : Bool) (db : Option (List ℕ)) (names contents : List (List ℕ))
     (faultless : Bool) (text : List ℕ) : Type 0 where
   pub sound : Bool

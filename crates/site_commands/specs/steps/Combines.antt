@@ -5,13 +5,13 @@ use Rattle.site_commands.specs.Parts.{IsWholeOfFiles, TellsFault}
 use Rattle.site_commands.specs.declared.ending.Ending.{Ending}
 use Rattle.site_commands.specs.declared.ending.Ending.TheVariants as ending
 
--- the line of a refusal, or want of memory for it
+-- the error line of a refusal of `combine`, or want of memory for it
 abbrev pub IsRefusalLine : List ℕ → Ending → Type 0
 IsRefusalLine line (ending.Uncombined text hint) = text ≡ line
 IsRefusalLine line ending.NoMemory = Unit {0}
 IsRefusalLine line _ = ⊥
 
--- the whole, or the line of a fault of these files, the answers' or the covers'
+-- the whole of parts, or the error line of a fault of these files, the answers' or the covers'
 abbrev pub IsContentsEnding : Query → List (List ℕ) → List (List ℕ) → List (List ℕ)
     → List (List ℕ) → Ending → Type 0
 IsContentsEnding q files cover_files answers covers (ending.Answer text) =

@@ -10,7 +10,7 @@ use Rattle.site_commands.specs.declared.ending.Ending.TheVariants as ending
 use Rattle.site_commands.specs.declared.split.SplitFault.{SplitFault}
 use Rattle.site_commands.specs.declared.split.SplitFault.TheVariants as fault
 
--- these are all parts of the events
+-- these are all parts of the events that are saved in files
 pub record AreAllParts (count : ℕ) (events : List EventValue) (parts : List (List EventValue))
     : Type 0 where
   pub len : length parts ≡ count
@@ -25,13 +25,13 @@ RefusesFile prefix i events old new fault.OutOfMemory =
 RefusesFile prefix i events old new (fault.Unsaved at) =
     (at ≡ i) × GrewBy old new (file_of prefix i events false ∷ [])
 
--- the line of a file that wasn't saved, or want of memory for it
+-- the error line of a part's file that wasn't saved, or want of memory for it
 abbrev pub IsUnsavedEnding : Split → ℕ → Ending → Type 0
 IsUnsavedEnding asked i (ending.Unsaved text hint) = text ≡ unsaved_line asked i
 IsUnsavedEnding asked i ending.NoMemory = Unit {0}
 IsUnsavedEnding asked i _ = ⊥
 
--- why not all files of the parts were saved
+-- why not all files of the parts of the events were saved
 abbrev pub StopsParts : Split → List EventValue → Option (List Output) → Option (List Output)
     → SplitFault → Type 0
 StopsParts asked events old new fault.OutOfMemory = (i : ℕ) × (i < asked.count)

@@ -21,7 +21,7 @@ use std::marker::Brand;
 use std::sync::Wait;
 use views::{Answer, Query};
 
-/// The answer to a question, as a desk answers.
+/// The answer to a question in a turn with the shared site, as a desk answers.
 fn answer(site: &Site, query: Query) -> Result<Answer, DeskFault>
     ensures answers { HasRightReply site.now (call (command.Query query) (answered result)) }
     ensures err { OnErr result (set_of site.now ≢ []) }
@@ -30,7 +30,7 @@ fn answer(site: &Site, query: Query) -> Result<Answer, DeskFault>
     Ok(site.query(query)?)
 }
 
-/// The summary, as a desk answers.
+/// The summary in a turn with the shared site, as a desk answers.
 fn summary(site: &mut Site) -> Result<Summary, DeskFault>
     ensures same { site.new ≡ site.old }
     ensures answers { HasRightReply site.old (call command.Summary (summed result)) }
@@ -39,7 +39,7 @@ fn summary(site: &mut Site) -> Result<Summary, DeskFault>
     Ok(site.summary()?)
 }
 
-/// What a peer lacks, as a desk answers.
+/// What a peer lacks, in a turn with the shared site, as a desk answers.
 fn delta_page(site: &mut Site, peer: &Summary, from: u64, limit: u64) -> Result<Batch, DeskFault>
     requires low { 1 ≤ limit }
     requires high { limit ≤ max_page }
@@ -53,7 +53,7 @@ fn delta_page(site: &mut Site, peer: &Summary, from: u64, limit: u64) -> Result<
     Ok(site.next_delta_page(peer, from, limit)?)
 }
 
-/// A page in key order, as a desk answers.
+/// A page in key order in a turn with the shared site, as a desk answers.
 fn key_page(site: &Site, from: u64, limit: u64) -> Result<Batch, DeskFault>
     requires low { 1 ≤ limit }
     requires high { limit ≤ max_page }
@@ -63,7 +63,7 @@ fn key_page(site: &Site, from: u64, limit: u64) -> Result<Batch, DeskFault>
     Ok(site.page(from, limit)?)
 }
 
-/// The events that came after the first n, as a desk answers.
+/// The events that came to the shared site after the first n, as a desk answers.
 fn arrivals_after(site: &Site, n: u64, limit: u64) -> Result<Batch, DeskFault>
     requires low { 1 ≤ limit }
     requires high { limit ≤ max_page }
@@ -74,7 +74,7 @@ fn arrivals_after(site: &Site, n: u64, limit: u64) -> Result<Batch, DeskFault>
 }
 
 impl SharedSite {
-    /// Waits for a turn and asks a question, as `Site::query` does.
+    /// Waits for a turn and asks the shared site a question, as `Site::query` does.
     pub fn query<R: Wait>(&self, rt: &R, pass: &mut Pass, query: Query) -> Result<Answer, DeskFault>
         requires { pass.old.table ≡ self.now }
         ensures made { Made pass.old pass.new (call (command.Query query) (answered result)) }
@@ -90,7 +90,7 @@ impl SharedSite {
         reply
     }
 
-    /// Waits for a turn and asks for the summary, as `Site::summary` does.
+    /// Waits for a turn and asks the shared site for the summary, as `Site::summary` does.
     pub fn summary<R: Wait>(&self, rt: &R, pass: &mut Pass) -> Result<Summary, DeskFault>
         requires { pass.old.table ≡ self.now }
         ensures made { Made pass.old pass.new (call command.Summary (summed result)) }
@@ -105,7 +105,7 @@ impl SharedSite {
         reply
     }
 
-    /// Waits for a turn and asks for what a peer lacks, as `Site::delta_page` does.
+    /// Waits for the shared site's turn and asks what a peer lacks, as `Site::delta_page` does.
     pub fn delta_page<R: Wait>(
         &self,
         rt: &R,
@@ -134,7 +134,7 @@ impl SharedSite {
         reply
     }
 
-    /// Waits for a turn and asks for a page in key order, as `Site::page` does.
+    /// Waits for the shared site's turn and asks for a page in key order, as `Site::page` does.
     pub fn page<R: Wait>(
         &self,
         rt: &R,
@@ -157,7 +157,7 @@ impl SharedSite {
         reply
     }
 
-    /// Waits for a turn and asks for the events that came after the first n, as
+    /// Waits for a turn and asks the shared site for the events that came after the first n, as
     /// `Site::arrivals_after` does.
     pub fn fresh<R: Wait>(
         &self,

@@ -17,7 +17,7 @@ use std::marker::Brand;
 use std::snapshot::Snapshot;
 use std::sync::Wait;
 
-/// Takes the events of a batch, as a desk does.
+/// Takes the events of a batch in a turn with the shared site, as a desk does.
 fn take_batch(site: &mut Site, batch: &mut Batch) -> Result<Counts, DeskFault>
     ensures answers { HasRightReply site.old (call (command.Take batch.old) (took result)) }
     ensures arrivals { site.new
@@ -36,8 +36,8 @@ fn take_batch(site: &mut Site, batch: &mut Batch) -> Result<Counts, DeskFault>
 }
 
 impl SharedSite {
-    /// Waits for a turn and takes the events of a batch, as `Site::take_batch` does. After want of
-    /// memory the batch holds what was not taken; what was taken stays, and the call has its entry.
+    /// Waits for a turn. The shared site takes a batch, as by `Site::take_batch`: after want of
+    /// memory the batch holds what was not taken, the rest stays, and the call has its entry.
     pub fn take<R: Wait>(
         &self,
         rt: &R,

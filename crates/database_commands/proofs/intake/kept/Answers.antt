@@ -9,32 +9,32 @@ use Rattle.database_commands.proofs.intake.kept.Goals as goal
 
 pub returns-in-Ok-clause-taken : goal.returns-in-Ok-clause-taken
 returns-in-Ok-clause-taken g c clean =
-    IfOk-weaker c.said.result _ _
+    IfOk-weaker c.counts_line.result _ _
     (λ text line held box. record {
       kept = (c.in-Ok.ensures.effect clean).takes held box;
       fresh = c.in-Ok.fresh;
       count = (c.in-Ok.ensures.effect clean).fresh held box;
       line = line ∙ ap (λ n. counts_line n c.in-Ok.fresh) c.len.ensures;
     })
-    c.said.ensures.line
+    c.counts_line.ensures.line
 
 pub returns-in-Ok-clause-beside : goal.returns-in-Ok-clause-beside
 returns-in-Ok-clause-beside g c clean still = service_kept _ _ (c.in-Ok.ensures.effect clean).beside
 
 pub returns-in-Ok-clause-told : goal.returns-in-Ok-clause-told
-returns-in-Ok-clause-told g c = on_ok c.said.result _ c.in-Ok.ensures.told
+returns-in-Ok-clause-told g c = on_ok c.counts_line.result _ c.in-Ok.ensures.told
 
 pub returns-in-Err-clause-beside : goal.returns-in-Err-clause-beside
 returns-in-Err-clause-beside g c clean still = service_same _ _ ((c.in-Err.ensures.effect clean).same still)
 
 pub returns-in-Ok-clause-stays_open : goal.returns-in-Ok-clause-stays_open
-returns-in-Ok-clause-stays_open g c clean = on_ok c.said.result _ (c.in-Ok.ensures.effect clean).stays_open
+returns-in-Ok-clause-stays_open g c clean = on_ok c.counts_line.result _ (c.in-Ok.ensures.effect clean).stays_open
 
 pub returns-in-Ok-clause-settled : goal.returns-in-Ok-clause-settled
-returns-in-Ok-clause-settled g c clean = on_ok c.said.result _ (c.in-Ok.ensures.effect clean).settled
+returns-in-Ok-clause-settled g c clean = on_ok c.counts_line.result _ (c.in-Ok.ensures.effect clean).settled
 
 pub returns-in-Ok-clause-fault : goal.returns-in-Ok-clause-fault
-returns-in-Ok-clause-fault g c = IfErr-weaker c.said.result _ _ (λ f is. inl is) c.said.ensures.fault
+returns-in-Ok-clause-fault g c = IfErr-weaker c.counts_line.result _ _ (λ f is. inl is) c.counts_line.ensures.fault
 
 pub returns-in-Err-clause-fault : goal.returns-in-Err-clause-fault
 returns-in-Err-clause-fault g c =

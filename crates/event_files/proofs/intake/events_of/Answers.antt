@@ -1,6 +1,7 @@
-use Rattle.std.proofs.Common.{◌≡◌, ◌∙◌, ℕ, List, ap, sym, subst, take, length, arith, refl}
+use Rattle.std.proofs.Common.{◌≡◌, ◌∙◌, ◌++◌, ℕ, List, ap, sym, subst, take, length, arith, refl}
 use Rattle.std.specs.Prelude.{Some, slice_get}
 use Rattle.std.proofs.lemmas.Option.{slice_get_read}
+use Rattle.attributes.specs.Event.{EventValue}
 use Rattle.event_files.specs.Files.{SpellAll}
 use Rattle.event_files.proofs.ListLemmas.{take_next}
 use Rattle.event_files.proofs.FileLemmas.{SpellAll-more, first_fits, refusal_by}
@@ -29,5 +30,6 @@ loop-file-preserved g c =
     slice_get_read files (length files) c.loop-file.file c.index-files-file.result refl (omega arith) c.index-files-file.is
     ∙ ap (λ (x : List ℕ). Some x) (sym c.as_bytes.ensures.value) in
     subst (λ (fs : List (List ℕ)). SpellAll fs c.append.new.events) (sym (take_next files c.loop-file.file c.as_bytes.result.now there))
-    (SpellAll-more (take c.loop-file.file files) c.as_bytes.result.now c.in-Ok.more c.loop-file.events c.append.new.events
-    c.loop-file.invariant c.in-Ok.ensures.ok.reads c.in-Ok.ensures.ok.numbered c.in_ok-append-in-Ok.ensures)
+    (SpellAll-more (take c.loop-file.file files) c.as_bytes.result.now c.in-Ok.ensures.ok.events c.loop-file.events c.append.new.events
+    c.loop-file.invariant c.in-Ok.ensures.ok.spells.reads c.in-Ok.ensures.ok.spells.numbered
+    (c.in_ok-append-in-Ok.ensures ∙ ap (λ (l : List EventValue). c.loop-file.events ++ l) (c.in-Ok.ensures.ok.in_order refl)))

@@ -52,8 +52,8 @@ loop-bytes-preserved g c =
       h.0 ++ b ∷ [],
       files_on h.0 rest left files b c.loop-bytes.file next h.1 h.2,
       ap (λ (n : ℕ). n + 1) h.2 ∙ sym (length_more h.0 b),
-      KeepsFiles-more h.0 b spelled.ordered c.loop-bytes.site c.take_file.new.site
+      KeepsFiles-more h.0 b spelled.events c.loop-bytes.site c.take_file.new.site
           h.3 spelled.spells.reads spelled.spells.numbered spelled.spells.are
-          (GainsSet-permutation c.sets_are_members.ensures h.0 spelled.ordered took.events c.loop-bytes.site c.take_file.new.site
+          (GainsSet-permutation c.sets_are_members.ensures h.0 spelled.events took.events c.loop-bytes.site c.take_file.new.site
           h.3 spelled.spells.are spelled.same took.gains),
     )
