@@ -86,14 +86,15 @@ def lengths(page: str) -> Iterator[str]:
 
 
 def sources(crate: str) -> Iterator[str]:
-    for at, _, files in os.walk(f"{TOP}/crates/{crate}/src"):
-        for it in files:
-            with open(f"{at}/{it}", encoding="utf-8") as file:
-                yield file.read()
+    for part in ("src", "specs"):
+        for at, _, files in os.walk(f"{TOP}/crates/{crate}/{part}"):
+            for it in files:
+                with open(f"{at}/{it}", encoding="utf-8") as file:
+                    yield file.read()
 
 
 def contracts(page: str) -> Iterator[str]:
-    """Functions that docs/GUARANTEES.md names and that their crates don't have."""
+    """Functions, types, clauses and definitions that docs/GUARANTEES.md names and that their crates don't have."""
     if page != "docs/GUARANTEES.md":
         return
     crates = set(os.listdir(f"{TOP}/crates"))
@@ -104,7 +105,8 @@ def contracts(page: str) -> Iterator[str]:
             if parts[0] in crates and (len(parts) > 1 or crate is None):
                 crate = parts[0]
             text = "\n".join(sources(crate)) if crate else ""
-            if not re.search(rf"\b{parts[-1]}\b", text) and parts[-1] not in crates:
+            is_there = re.search(rf"\b(?:fn|struct|enum|trait|ensures) {parts[-1]}\b|^{parts[-1]} .*[:=]", text, re.M)
+            if not is_there and parts[-1] not in crates:
                 yield f"{name} stands in no source of {crate}"
 
 
