@@ -14,5 +14,5 @@ pub use pieces::next_comma;
 pub use read::{MAX_INPUT, batch_parts_join, read_events, read_part_events, readings_are_one};
 pub use write::{
     batch_texts_read_back, batch_texts_tell_lists, texts_read_back, write_batch, write_event,
-    write_sequenced,
+    write_lent, write_sequenced,
 };

@@ -1,5 +1,5 @@
 //! Events written as JSON.
-ghost use Rattle.std.specs.Prelude.{◌≡◌, ◌≤◌, ◌<◌, Some, List, [], ◌∷◌, ◌++◌, length, slice_get, IfOk, IfSome, OnOk, string_bytes};
+ghost use Rattle.std.specs.Prelude.{◌≡◌, ◌≤◌, ◌<◌, Some, List, [], ◌∷◌, ◌++◌, length, map, slice_get, IfOk, IfSome, OnOk, string_bytes};
 ghost use Rattle.std.specs.List.{AllByRecursion};
 ghost use Rattle.attributes.specs.Event.{EventValue, text};
 ghost use Rattle.attributes.specs.Fault.{IsEvent};
@@ -11,7 +11,7 @@ use attributes::laws::{
     exact_json_reads_back, objects_hold_attributes, parts_make_events, text_reads_back,
     text_tells_events,
 };
-use attributes::{Batch, Event, Events, Text};
+use attributes::{Batch, Event, Events, Sequenced, Text};
 use std::alloc::{AllocError, Global};
 
 /// Writes the event's canonical text, in time and memory proportional to its length.
@@ -37,6 +37,15 @@ pub fn write_sequenced(alloc: Global, batch: &Batch) -> Result<Text, AllocError>
     ensures reads_back { IfOk result (λ t. length t ≤ max_input → Reads t batch.now) }
 {
     write_list(alloc, batch)
+}
+
+/// As [`write_batch`], of events that have a number and are lent.
+pub fn write_lent(alloc: Global, events: &[&Sequenced]) -> Result<Text, AllocError>
+    ensures text { IfOk result (λ t. t ≡ batch_text (map (λ e. e.now) events.now)) }
+    ensures reads_back { IfOk result (λ t. length t ≤ max_input
+        → Reads t (map (λ e. e.now) events.now)) }
+{
+    write_list(alloc, &Lent { events })
 }
 
 /// Different lists of events have different batch texts.
@@ -107,6 +116,26 @@ impl EventList for Batch {
 
     fn event_at(&self, i: u64) -> &Event {
         self.at(i).event()
+    }
+}
+
+/// A batch's events where they stand.
+#[derive(Drop)]
+struct Lent<'a> {
+    events: &'a [&'a Sequenced],
+}
+
+impl EventList for Lent<'_> {
+    ghost use Rattle.std.specs.Prelude.{map};
+
+    ghost list = { λ l. map (λ e. e.now) l.events.now };
+
+    fn count(&self) -> u64 {
+        self.events.len() as u64
+    }
+
+    fn event_at(&self, i: u64) -> &Event {
+        self.events[i as usize].event()
     }
 }
 

@@ -1,9 +1,8 @@
 -- A part of a list, page by page.
-use Rattle.std.proofs.Common.{◌≡◌, ◌≤◌, ◌<◌, ◌≢◌, ◌+◌, ◌-◌, ◌*◌, ◌⊎◌, ◌∙◌, ◌++◌, ◌∷◌, ℕ, zero, suc, List, [], Bool, ap, drop, filter, length, min, not, append-nil, append_assoc, refl, subst, sym, take, arith, inl, inr}
+use Rattle.std.proofs.Common.{◌≡◌, ◌≤◌, ◌<◌, ◌≢◌, ◌+◌, ◌-◌, ◌*◌, ◌⊎◌, ◌∙◌, ◌++◌, ◌∷◌, ℕ, zero, suc, List, [], ap, drop, length, min, subst, sym, take, arith, inl, inr}
 use Rattle.std.proofs.lemmas.Bool.{cases_lt}
 use Rattle.std.proofs.lemmas.List.Sums.{sum_by-append}
-use Rattle.std.proofs.lemmas.List.{drop-drop, drop_all, length-drop, length-take, nil_from_length, take-append-le, take_all, take_min}
-use Rattle.std.proofs.lemmas.List.Filters.{length-filter_both}
+use Rattle.std.proofs.lemmas.List.{drop-drop, length-drop, length-take, nil_from_length, take-append-le, take_all, take_min}
 use Rattle.attributes.specs.Event.{EventValue, text}
 use Rattle.site.specs.Page.{page}
 use Rattle.library_calls.specs.Sets.{IsBounded, bytes_of}
@@ -16,51 +15,12 @@ take_then (suc a) b (e ∷ L) =
     let same : suc (a + b) ≡ suc a + b = omega arith in
     ap (λ (l : List EventValue). e ∷ l) (take_then a b L) ∙ ap (λ n. take n (e ∷ L)) same
 
--- the greatest number stands for all that are greater
-pub saturated : (D : List EventValue) (n most limit : ℕ) → length D ≤ most → page D (min n most) limit ≡ page D n limit
-saturated D n most limit few = elim (cases_lt most n) [
-  | inl more ↦ (let same : min n most ≡ most = omega (arith, more) in
-      ap (λ (l : List EventValue). take limit l) (ap (λ k. drop k D) same ∙ drop_all most D few ∙ sym (drop_all n D (omega (arith, more, few)))))
-  | inr fits ↦ (let same : min n most ≡ n = omega (arith, fits) in ap (λ k. page D k limit) same)
-]
-
 -- bytes of texts, and a front of a list
 pub bytes_both : (A B : List EventValue) → bytes_of (A ++ B) ≡ bytes_of A + bytes_of B
 bytes_both A B = sum_by-append (λ e. length (text e)) A B
 
 take_whole : (n : ℕ) (A B : List EventValue) → n ≡ length A → take n (A ++ B) ≡ A
 take_whole n A B same = take-append-le n A B (omega (arith, same)) ∙ take_all n A (omega (arith, same))
-
--- of a page a front stands behind a part, and so many bytes of it are counted
-pub record Moved (part page now rest : List EventValue) (bytes : ℕ) : Type 0 where
-  pub front : List EventValue
-  pub split : page ≡ front ++ rest
-  pub put : now ≡ part ++ front
-  pub count : bytes ≡ min (bytes_of front) 18446744073709551615
-
-pub moved_none : (part page : List EventValue) → Moved part page part page 0
-moved_none part page = record { front = []; split = refl; put = sym (append-nil part); count = refl }
-
-pub moved_on : (part page now next rest rest' : List EventValue) (e : EventValue) (bytes bytes' : ℕ) → Moved part page now rest bytes → rest ≡ e ∷ rest' → next ≡ now ++ e ∷ []
-    → bytes' ≡ min (bytes + length (text e)) 18446744073709551615 → Moved part page next rest' bytes'
-moved_on part page now next rest rest' e bytes bytes' was is put more =
-    let whole = bytes_both was.front (e ∷ []) in record {
-      front = was.front ++ e ∷ [];
-      split = was.split ∙ ap (λ (l : List EventValue). was.front ++ l) is ∙ sym (append_assoc was.front (e ∷ []) rest');
-      put = put ∙ ap (λ (l : List EventValue). l ++ e ∷ []) was.put ∙ append_assoc part was.front (e ∷ []);
-      count = omega (arith, more, was.count, whole);
-    }
-
-pub moved_all : (part page now rest : List EventValue) (bytes : ℕ) → Moved part page now rest bytes → length rest ≡ 0
-    → (now ≡ part ++ page) × (bytes ≡ min (bytes_of page) 18446744073709551615)
-moved_all part page now rest bytes was none =
-    let all : page ≡ was.front = was.split ∙ ap (λ (l : List EventValue). was.front ++ l) (nil_from_length rest none) ∙ append-nil was.front in (
-      was.put ∙ ap (λ (l : List EventValue). part ++ l) (sym all),
-      was.count ∙ ap (λ (l : List EventValue). min (bytes_of l) 18446744073709551615) (sym all),
-    )
-
-pub few_pass : (p : EventValue → Bool) (L : List EventValue) → length (filter p L) ≤ length L
-few_pass p L = let both = length-filter_both p (λ e. not (p e)) (λ e. refl) L in omega (arith, both)
 
 -- of a list from a place on these are the first ones, after so many pages
 pub record IsSoFar (D : List EventValue) (from limit i : ℕ) (part : List EventValue) : Type 0 where

@@ -138,11 +138,16 @@ pub record IsSizedPart (lacking : List EventValue) (from most size : ℕ) (event
       ⊎ ((size ≢ 0) × (size ≤ bytes_of events)
       × ((pages : ℕ) × (length events ≡ pages * 100)))
 
+-- libjumbetai's text is the line of the part from a place of a list on, and so many events it has
+abbrev pub IsPartLine : List EventValue → ℕ → ℕ → ℕ → List ℕ → ℕ → Type 0
+IsPartLine lacking from most size text listed =
+    (events : List EventValue) × IsSizedPart lacking from most size events
+    × IsPageLine events text listed
+
 -- libjumbetai's text is the part from this place on of what the bytes' peer lacks of the set E
 abbrev pub LacksPart : List ℕ → ℕ → ℕ → ℕ → List EventValue → List ℕ → ℕ → Type 0
-LacksPart bytes from most size E text listed = (s : Sources) × IsPeer bytes s
-    × ((events : List EventValue) × IsSizedPart (delta E s) from most size events
-    × IsPageLine events text listed)
+LacksPart bytes from most size E text listed =
+    (s : Sources) × IsPeer bytes s × IsPartLine (delta E s) from most size text listed
 
 -- what `jumbetai_site_part` leaves and replies
 abbrev pub PartLacked : List ℕ → ℕ → ℕ → ℕ → Held → Held → Reply → Type 0

@@ -1,14 +1,15 @@
 //! What a service asks of the site that lies in the room, beside the calls of `calls`.
 
-ghost use Rattle.std.specs.Prelude.{◌≡◌, ◌≢◌, ◌≤◌, ◌⊎◌, ◌↔◌, ◌++◌, [], ◌∷◌, IfErr, IfOk, IsTrue, OnErr, length, min};
+ghost use Rattle.std.specs.Prelude.{◌≡◌, ◌≢◌, ◌≤◌, ◌⊎◌, ◌↔◌, ◌++◌, [], ◌∷◌, IfErr, IfOk, IsTrue, OnErr, OnOk, length, min};
 ghost use Rattle.coverage.specs.Digests.{Digests};
 ghost use Rattle.coverage.specs.Summary.{Sources};
 ghost use Rattle.event_files.specs.Files.{IsRefusal, SpellAll};
 ghost use Rattle.inbox.specs.Sets.{set_of};
 ghost use Rattle.site.specs.Delta.{delta};
 ghost use Rattle.site.specs.Key.{with_key};
-ghost use Rattle.library_calls.specs.Calls.{IsPeer, IsRefusedPeer};
-ghost use Rattle.library_calls.specs.Sets.{Arrived, Compared, Copied, Found, IsApart, IsFound, IsNamed, IsLag, IsNameOf, IsSizedPart, LacksPart, Named, PartLacked, Released, TellsLag, TellsName, Tested, WantsFound, bytes_of, part_limit};
+ghost use Rattle.site.specs.Mark.{IsMark};
+ghost use Rattle.library_calls.specs.Calls.{IsPageLine, IsPeer, IsRefusedPeer};
+ghost use Rattle.library_calls.specs.Sets.{Arrived, Compared, Copied, Found, IsApart, IsFound, IsNamed, IsLag, IsNameOf, IsPartLine, IsSizedPart, LacksPart, Named, PartLacked, Released, TellsLag, TellsName, Tested, WantsFound, bytes_of, part_limit};
 
 use crate::calls::{
     Answered, DONE, MAX_PAGE, OUT_OF_MEMORY, Reply, batch_of, keep, page_line, peer_of,
@@ -16,9 +17,10 @@ use crate::calls::{
 use crate::held::Held;
 use attributes::{Batch, Text};
 use coverage::Summary;
+use event_json::write_lent;
 use lag::{differing, lacking};
 use sha2::{Digest, Sha256};
-use site::Site;
+use site::{Lent, Mark, Site};
 use std::alloc::{AllocError, Global};
 use views::{Answer, print};
 
@@ -190,17 +192,16 @@ fn part_limit(most: u64) -> u64
     most.min(MAX_PART)
 }
 
-/// Moves a page's events behind those of libjumbetai's part, and answers how many bytes they have.
-fn append(part: &mut Batch, mut page: Batch) -> Result<u64, AllocError>
-    ensures { IfOk result (λ bytes. (part.new ≡ part.old ++ page)
-        × (bytes ≡ min (bytes_of page) u64.MAX)) }
+/// Lends a page's events behind those of libjumbetai's part, and answers how many bytes they have.
+fn append<'s>(part: &mut Lent<'s>, page: &Lent<'s>) -> Result<u64, AllocError>
+    ensures { IfOk result (λ bytes. (part.new ≡ part.old ++ page.now)
+        × (bytes ≡ min (bytes_of page.now) u64.MAX)) }
 {
     let mut bytes = 0u64;
     for i in 0..page.len() {
-        if let Some(event) = page.take_front() {
-            bytes = bytes.saturating_add(event.event().text().len() as u64);
-            part.push(event)?;
-        }
+        let event = page.at(i);
+        part.push(event)?;
+        bytes = bytes.saturating_add(event.event().text().len() as u64);
     }
     Ok(bytes)
 }
@@ -212,22 +213,24 @@ fn is_large(bytes: u64, size: u64) -> bool
     size > 0 && bytes >= size
 }
 
-/// The part from a place on of what a peer lacks, for a call: at most so many events, and the page
-/// with which their texts have so many bytes, where that isn't 0, is the last.
-fn part_of(
+/// The part behind a mark of what a peer lacks, for a call: at most so many events, and the page
+/// with which their texts have so many bytes, where that isn't 0, is the last. Moves the mark.
+fn part_of<'s>(
     alloc: Global,
-    site: &mut Site,
-    peer: &Summary,
-    from: u64,
+    site: &'s Site,
+    mark: &mut Mark,
     most: u64,
     size: u64,
-) -> Result<Batch, AllocError>
-    ensures same { site.new ≡ site.old }
-    ensures part { IfOk result
-        (λ events. IsSizedPart (delta (set_of site.old) peer.now) from most size events) }
+) -> Result<Lent<'s>, AllocError>
+    requires { IsMark site.now mark.old.peer mark.old.own mark.old.among mark.old.from
+        mark.old.place }
+    ensures part { IfOk result (λ events. IsSizedPart (delta (set_of site.now) mark.old.peer)
+        mark.old.from most size events) }
+    ensures mark { OnOk result (IsMark site.now mark.new.peer mark.new.own mark.new.among
+        mark.new.from mark.new.place) }
 {
     let limit = part_limit(most);
-    let mut part = Batch::empty(alloc);
+    let mut part = Lent::empty(alloc);
     let mut bytes = 0u64;
     for i in 0..PART_PAGES {
         let count = part.len();
@@ -237,16 +240,46 @@ fn part_of(
         if is_large(bytes, size) {
             return Ok(part);
         }
-        // No more events lack than there are, which bounds the sum below.
-        let _len = site.len();
-        let at = from.saturating_add(count);
-        let page = site.next_delta_page(peer, at, (limit - count).min(MAX_PAGE))?;
+        let page = site.lend_delta(mark, (limit - count).min(MAX_PAGE))?;
         if page.is_empty() {
             return Ok(part);
         }
-        bytes = bytes.saturating_add(append(&mut part, page)?);
+        bytes = bytes.saturating_add(append(&mut part, &page)?);
     }
     Ok(part)
+}
+
+/// The line of events that libjumbetai's site lends, and how many they are.
+fn lent_line(alloc: Global, events: &Lent<'_>) -> Result<Answered, AllocError>
+    ensures { IfOk result (λ m. IsPageLine events.now m.text m.listed) }
+{
+    let mut line = write_lent(alloc, events.as_slice())?.into_string();
+    line.push_str("\n")?;
+    Ok(Answered {
+        text: Text::from_string(line),
+        listed: events.len(),
+    })
+}
+
+/// The line of the part from a place on of what a peer lacks, for a call of libjumbetai.
+fn part_line(
+    alloc: Global,
+    site: &mut Site,
+    peer: &Summary,
+    from: u64,
+    most: u64,
+    size: u64,
+) -> Result<Answered, AllocError>
+    ensures same { site.new ≡ site.old }
+    ensures part { IfOk result
+        (λ m. IsPartLine (delta (set_of site.old) peer.now) from most size m.text m.listed) }
+{
+    let Some(mut mark) = site.take_mark(peer, from) else {
+        return Err(AllocError);
+    };
+    let line = lent_line(alloc, &part_of(alloc, site, &mut mark, most, size)?)?;
+    site.put_mark(mark);
+    Ok(line)
 }
 
 /// The line of the part of what a peer lacks, from a place on, or the status of libjumbetai's call.
@@ -264,8 +297,10 @@ fn part_at(
     ensures err { IfErr result (IsRefusedPeer peer.now) }
 {
     let peer = peer_of(alloc, peer)?;
-    let part = part_of(alloc, site, &peer, from, most, size);
-    page_line(alloc, part)
+    match part_line(alloc, site, &peer, from, most, size) {
+        Ok(line) => Ok(line),
+        Err(_) => Err(OUT_OF_MEMORY),
+    }
 }
 
 /// Keeps as libjumbetai's text the part of what a peer lacks of a site, from a place on.

@@ -6,7 +6,7 @@ use Rattle.attributes.specs.Event.{EventValue}
 use Rattle.coverage.specs.Summary.{Sources}
 use Rattle.inbox.specs.Sets.{set_of}
 use Rattle.site.specs.Delta.{delta, lacking_of}
-use Rattle.site.specs.steps.Mark.{IsMark}
+use Rattle.site.specs.Mark.{IsMark}
 
 -- a page further
 pub mark_moves : (A events : List EventValue) (peer own : Sources) (among : Option (BTreeSet ℕ)) (from place next limit n : ℕ) → IsMark A peer own among from place → n ≡ length events

@@ -25,15 +25,18 @@ abbrev pub AreAll : List EventValue → Sources → BTreeSet ℕ → Type 0
 AreAll E peer places = (i : ℕ) (e : EventValue) → slice_get E i ≡ Some e
     → is_lacking E peer e ≡ true → contains nat_cmp places i ≡ true
 
--- a part of a delta: of the site's events E from a place on, those that the peer lacks, `limit` of
+-- what a part has: of the site's events E from a place on, those that the peer lacks, `limit` of
 -- them at most, and the place to go on from
-pub record IsDeltaPart (E : List EventValue) (peer : Sources) (place limit : ℕ) (part : DeltaPart)
-    : Type 0 where
-  pub events : part.events ≡ take limit (lacking_of E peer (drop place E))
-  pub rest : lacking_of E peer (drop part.next E)
-      ≡ drop limit (lacking_of E peer (drop place E))
-  pub within : part.next ≤ length E
-  pub behind : place + length part.events ≤ part.next
+pub record IsPartOf (E : List EventValue) (peer : Sources) (place limit : ℕ)
+    (part : List EventValue) (next : ℕ) : Type 0 where
+  pub events : part ≡ take limit (lacking_of E peer (drop place E))
+  pub rest : lacking_of E peer (drop next E) ≡ drop limit (lacking_of E peer (drop place E))
+  pub within : next ≤ length E
+  pub behind : place + length part ≤ next
+
+-- a part of a delta, whose events are copies of the site's
+abbrev pub IsDeltaPart : List EventValue → Sources → ℕ → ℕ → DeltaPart → Type 0
+IsDeltaPart E peer place limit part = IsPartOf E peer place limit part.events part.next
 
 -- of the site's events E from a place on, the peer lacks some of the next `limit`
 abbrev pub LacksSomeFrom : List EventValue → Sources → ℕ → ℕ → Type 0

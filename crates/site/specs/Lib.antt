@@ -2,6 +2,7 @@ pub mod Arrival
 pub mod Page
 pub mod Key
 pub mod Delta
+pub mod Mark
 pub mod Law
 pub mod Machine
 pub mod Desk

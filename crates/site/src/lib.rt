@@ -10,4 +10,4 @@ mod site;
 pub use call::{Call, Command, Reply};
 pub use desk::{Desk, DeskFault};
 pub use gate::{Gate, GateShut, Wide};
-pub use site::{DeltaPart, MAX_PAGE, Site};
+pub use site::{DeltaPart, Lent, MAX_PAGE, Mark, Site};

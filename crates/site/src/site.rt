@@ -8,6 +8,7 @@ mod among;
 mod delta;
 mod keep;
 mod key;
+mod lent;
 mod mark;
 mod merge;
 mod page;
@@ -20,7 +21,8 @@ use coverage::Summary;
 pub use delta::DeltaPart;
 use inbox::Inbox;
 use kept_views::Views;
-use mark::Mark;
+pub use lent::Lent;
+pub use mark::Mark;
 pub use page::MAX_PAGE;
 use std::alloc::Global;
 use std::marker::Model;
@@ -53,7 +55,7 @@ impl Model for Site {
     ghost use Rattle.kept_views.specs.Tables.{AreTablesOfShown};
     ghost use Rattle.views.specs.Number.{HasNumbers};
     ghost use Rattle.site.specs.Arrival.{AreDistinct, HaveEachNumber};
-    ghost use Rattle.site.specs.steps.Mark.{IsMark};
+    ghost use Rattle.site.specs.Mark.{IsMark};
 
     ghost Value = { List EventValue };
 

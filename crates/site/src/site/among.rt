@@ -5,12 +5,12 @@ ghost use Rattle.std.specs.BTreeSet.{contains};
 ghost use Rattle.std.specs.Ordering.{nat_cmp};
 ghost use Rattle.inbox.specs.Sets.{set_of};
 ghost use Rattle.block_digests.specs.Kept.{places_of};
-ghost use Rattle.site.specs.Delta.{AreAll, IsDeltaPart, LacksSomeFrom, Tells, lacking_of};
+ghost use Rattle.site.specs.Delta.{AreAll, IsDeltaPart, IsPartOf, LacksSomeFrom, Tells, lacking_of};
 ghost use Rattle.site.specs.steps.Among.{AllIn, HasEach, HasPlace, IsNextFrom, NoPlaceFrom, WantsNone};
 
 use super::Site;
-use super::delta::{DeltaPart, is_wanting};
-use attributes::Batch;
+use super::delta::{DeltaPart, LentPart, is_wanting};
+use super::lent::Lent;
 use coverage::Summary;
 use inbox::Inbox;
 use inbox::laws::sets_are_members;
@@ -130,13 +130,13 @@ impl Site {
         Some(found)
     }
 
-    /// Adds to a delta a copy of the site's event at a place of key order, if the peer wants it.
-    fn push_wanted(
-        &self,
+    /// Lends to a delta the site's event at a place of key order, if the peer wants it.
+    fn push_wanted<'s>(
+        &'s self,
         peer: &Summary,
         own: &Summary,
         at: u64,
-        events: &mut Batch,
+        events: &mut Lent<'s>,
     ) -> Result<(), AllocError>
         requires at { at < length (set_of self.now) }
         requires tells { Tells (set_of self.now) peer.now own.now }
@@ -149,29 +149,30 @@ impl Site {
     {
         let event = self.at(at);
         if is_wanting(peer, own, event) {
-            events.push(event.copy()?)?;
+            events.push(event)?;
         }
         Ok(())
     }
 
-    /// `delta_from`, which looks at the site's events at places of key order alone.
-    fn delta_among(
+    /// `lend_from`, which looks at the site's events at places of key order alone.
+    fn lend_among(
         &self,
         peer: &Summary,
         own: &Summary,
         among: &BTreeSet<u64>,
         place: u64,
         limit: u64,
-    ) -> Result<DeltaPart, AllocError>
+    ) -> Result<LentPart<'_>, AllocError>
         requires place { place ≤ length (set_of self.now) }
         requires tells { Tells (set_of self.now) peer.now own.now }
         requires all { AreAll (set_of self.now) peer.now among.now }
-        ensures part { IfOk result (IsDeltaPart (set_of self.now) peer.now place limit) }
+        ensures part { IfOk result
+            (λ p. IsPartOf (set_of self.now) peer.now place limit p.events p.next) }
 
         // Memory is wanted for events alone.
         ensures err { OnErr result (LacksSomeFrom (set_of self.now) peer.now place limit) }
     {
-        let mut events = Batch::empty(self.alloc);
+        let mut events = Lent::empty(self.alloc);
         let len = self.len();
         let mut at = place;
         while at < len && events.len() < limit {
@@ -181,7 +182,33 @@ impl Site {
                 at += 1;
             }
         }
-        Ok(DeltaPart { events, next: at })
+        Ok(LentPart { events, next: at })
+    }
+
+    /// `lend_from`, which where there are places looks at the events there alone: those of
+    /// `places_for`, or others outside of which nothing stands that the peer lacks. Costs a look-up
+    /// in both summaries for each place that is passed, or for each event where there are none.
+    pub(super) fn lend_part(
+        &self,
+        peer: &Summary,
+        own: &Summary,
+        among: &Option<BTreeSet<u64>>,
+        place: u64,
+        limit: u64,
+    ) -> Result<LentPart<'_>, AllocError>
+        requires place { place ≤ length (set_of self.now) }
+        requires tells { Tells (set_of self.now) peer.now own.now }
+        requires all { IfSome among.now (AreAll (set_of self.now) peer.now) }
+        ensures part { IfOk result
+            (λ p. IsPartOf (set_of self.now) peer.now place limit p.events p.next) }
+
+        // Memory is wanted for events alone.
+        ensures err { OnErr result (LacksSomeFrom (set_of self.now) peer.now place limit) }
+    {
+        match among {
+            Some(among) => self.lend_among(peer, own, among, place, limit),
+            None => self.lend_from(peer, own, place, limit),
+        }
     }
 
     /// `delta_from`, which where there are places looks at the events there alone: those of
@@ -204,9 +231,7 @@ impl Site {
         // Memory is wanted for events alone.
         ensures err { OnErr result (LacksSomeFrom (set_of self.now) peer.now place limit) }
     {
-        match among {
-            Some(among) => self.delta_among(peer, own, among, place, limit),
-            None => self.delta_from(peer, own, place, limit),
-        }
+        let part = self.lend_part(peer, own, among, place, limit)?;
+        part.copied(self.alloc)
     }
 }

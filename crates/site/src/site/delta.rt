@@ -3,20 +3,42 @@
 ghost use Rattle.std.specs.Prelude.{◌≡◌, ◌≢◌, ◌≤◌, [], drop, length, take, IfOk, OnErr};
 ghost use Rattle.inbox.specs.Sets.{set_of};
 ghost use Rattle.coverage.specs.Summary.{version_of};
-ghost use Rattle.site.specs.Delta.{IsDeltaPart, LacksSomeFrom, Tells, delta, is_wanting, lacking_of};
+ghost use Rattle.site.specs.Delta.{IsDeltaPart, IsPartOf, LacksSomeFrom, Tells, delta, is_wanting, lacking_of};
 ghost use Rattle.site.specs.Page.{max_page, page};
 
 use super::Site;
+use super::lent::Lent;
 use attributes::{Batch, Sequenced};
 use coverage::Summary;
 use coverage::laws::summaries_stand_for_sets;
-use std::alloc::AllocError;
+use std::alloc::{AllocError, Global};
 
 /// Events that a peer lacks, and the place of key order to go on from.
 #[derive(Drop)]
 pub struct DeltaPart {
     pub events: Batch,
     pub next: u64,
+}
+
+/// Events that a peer lacks, which the site lends, and the place of key order to go on from.
+#[derive(Drop)]
+pub(super) struct LentPart<'s> {
+    pub(super) events: Lent<'s>,
+    pub(super) next: u64,
+}
+
+impl LentPart<'_> {
+    /// A delta's part with copies of the events that the site lends.
+    pub(super) fn copied(&self, alloc: Global) -> Result<DeltaPart, AllocError>
+        ensures events { IfOk result (λ part. part.events ≡ self.now.events) }
+        ensures next { IfOk result (λ part. part.next ≡ self.now.next) }
+        ensures err { OnErr result (self.now.events ≢ []) }
+    {
+        Ok(DeltaPart {
+            events: self.events.copied(alloc)?,
+            next: self.next,
+        })
+    }
 }
 
 /// Whether a peer's summary wants an event of which the site's own summary tells.
@@ -70,6 +92,38 @@ impl Site {
     }
 
     /// Of the events from a place of key order on, those that the peer lacks, `limit` of them at
+    /// most, lent, and the place to go on from. Costs a look-up in both summaries for each event
+    /// that is passed.
+    pub(super) fn lend_from(
+        &self,
+        peer: &Summary,
+        own: &Summary,
+        place: u64,
+        limit: u64,
+    ) -> Result<LentPart<'_>, AllocError>
+        requires place { place ≤ length (set_of self.now) }
+        requires tells { Tells (set_of self.now) peer.now own.now }
+        ensures part { IfOk result
+            (λ p. IsPartOf (set_of self.now) peer.now place limit p.events p.next) }
+
+        // Memory is wanted for events alone.
+        ensures err { OnErr result (LacksSomeFrom (set_of self.now) peer.now place limit) }
+    {
+        let mut events = Lent::empty(self.alloc);
+        let len = self.len();
+        for i in place..len {
+            if events.len() == limit {
+                return Ok(LentPart { events, next: i });
+            }
+            let event = self.at(i);
+            if is_wanting(peer, own, event) {
+                events.push(event)?;
+            }
+        }
+        Ok(LentPart { events, next: len })
+    }
+
+    /// Of the events from a place of key order on, those that the peer lacks, `limit` of them at
     /// most, and the place to go on from. Whoever goes on from there until no event comes has the
     /// whole rest of the delta, and goes over each event once. The own summary is the one of
     /// `summary_for`, or that of `summary`. Costs a look-up in both summaries for each event that
@@ -88,18 +142,8 @@ impl Site {
         // Memory is wanted for events alone.
         ensures err { OnErr result (LacksSomeFrom (set_of self.now) peer.now place limit) }
     {
-        let mut events = Batch::empty(self.alloc);
-        let len = self.len();
-        for i in place..len {
-            if events.len() == limit {
-                return Ok(DeltaPart { events, next: i });
-            }
-            let event = self.at(i);
-            if is_wanting(peer, own, event) {
-                events.push(event.copy()?)?;
-            }
-        }
-        Ok(DeltaPart { events, next: len })
+        let part = self.lend_from(peer, own, place, limit)?;
+        part.copied(self.alloc)
     }
 
     /// The events that the peer lacks, in key order: those whose number its summary doesn't hold

@@ -1,13 +1,14 @@
 //! Pages of what a peer lacks, one after another.
 
-ghost use Rattle.std.specs.Prelude.{◌≡◌, ◌≢◌, ◌≤◌, [], IfOk, IfSome, OnErr};
+ghost use Rattle.std.specs.Prelude.{◌≡◌, ◌≢◌, ◌+◌, ◌≤◌, [], IfOk, IfSome, OnErr, OnOk, length};
 ghost use Rattle.coverage.specs.Summary.{version_of};
 ghost use Rattle.inbox.specs.Sets.{set_of};
 ghost use Rattle.site.specs.Delta.{delta};
 ghost use Rattle.site.specs.Page.{max_page, page};
-ghost use Rattle.site.specs.steps.Mark.{IsMark};
+ghost use Rattle.site.specs.Mark.{IsMark};
 
 use super::Site;
+use super::lent::Lent;
 use attributes::Batch;
 use coverage::Summary;
 use std::alloc::{AllocError, Global};
@@ -17,7 +18,7 @@ use std::collections::BTreeSet;
 /// place of key order. The own summary tells which they are; where there are places, they stand
 /// there.
 #[derive(Drop)]
-pub(super) struct Mark {
+pub struct Mark {
     pub(super) peer: Summary,
     pub(super) own: Summary,
     pub(super) among: Option<BTreeSet<u64>>,
@@ -55,9 +56,10 @@ impl Site {
         })
     }
 
-    /// The mark in a delta that the site keeps where it is the peer's, behind as many events, and
-    /// else a new one; none where memory is refused.
-    fn mark_at(&mut self, peer: &Summary, from: u64) -> Option<Mark>
+    /// Takes the mark out that a site keeps in a peer's delta, where it stands behind as many
+    /// events, and else makes a new one; none where memory is refused. Costs nothing where it is
+    /// kept, else what `delta_page` does before it copies.
+    pub fn take_mark(&mut self, peer: &Summary, from: u64) -> Option<Mark>
         ensures same { self.new ≡ self.old }
         ensures from { IfSome result (λ m. m.from ≡ from) }
         ensures peer { IfSome result (λ m. m.peer ≡ peer.now) }
@@ -70,6 +72,39 @@ impl Site {
             }
         }
         self.marked(peer, from).ok()
+    }
+
+    /// Keeps a mark in a delta, for whoever asks the site for the events behind it next; where
+    /// memory is refused none is kept.
+    pub fn put_mark(&mut self, mark: Mark)
+        requires { IsMark self.old mark.peer mark.own mark.among mark.from mark.place }
+        ensures { self.new ≡ self.old }
+    {
+        self.mark = boxed(self.alloc, mark);
+    }
+
+    /// The events of a peer's delta behind a mark, `limit` of them at most, where they stand; moves
+    /// the mark behind them. Goes over the events from there up to the last one that is answered.
+    pub fn lend_delta(&self, mark: &mut Mark, limit: u64) -> Result<Lent<'_>, AllocError>
+        requires { IsMark self.now mark.old.peer mark.old.own mark.old.among mark.old.from
+            mark.old.place }
+        ensures page { IfOk result (λ lent. lent
+            ≡ page (delta (set_of self.now) mark.old.peer) mark.old.from limit) }
+        ensures from { IfOk result (λ lent. mark.new.from ≡ mark.old.from + length lent) }
+        ensures peer { OnOk result (mark.new.peer ≡ mark.old.peer) }
+        ensures mark { OnOk result (IsMark self.now mark.new.peer mark.new.own mark.new.among
+            mark.new.from mark.new.place) }
+
+        // Memory is wanted for events alone.
+        ensures err { OnErr result
+            (page (delta (set_of self.now) mark.old.peer) mark.old.from limit ≢ []) }
+    {
+        // The count bounds the sum below.
+        let _len = self.len();
+        let part = self.lend_part(&mark.peer, &mark.own, &mark.among, mark.place, limit)?;
+        mark.from += part.events.len();
+        mark.place = part.next;
+        Ok(part.events)
     }
 
     /// `delta_page`, which goes on where the last page of the same peer ended, if this one is asked
@@ -95,20 +130,11 @@ impl Site {
         ensures err_of_numbers { OnErr result (version_of peer.now ≡ 1
             → page (delta (set_of self.old) peer.now) from limit ≢ []) }
     {
-        let Some(mark) = self.mark_at(peer, from) else {
+        let Some(mut mark) = self.take_mark(peer, from) else {
             return self.delta_page(peer, from, limit);
         };
-        // The count bounds the sum below.
-        let _len = self.len();
-        let part = self.delta_part(peer, &mark.own, &mark.among, mark.place, limit)?;
-        let next = Mark {
-            peer: mark.peer,
-            own: mark.own,
-            among: mark.among,
-            from: from + part.events.len(),
-            place: part.next,
-        };
-        self.mark = boxed(self.alloc, next);
-        Ok(part.events)
+        let events = self.lend_delta(&mut mark, limit)?.copied(self.alloc)?;
+        self.put_mark(mark);
+        Ok(events)
     }
 }

@@ -1,6 +1,6 @@
-use Rattle.std.proofs.Common.{◌≡◌, ◌+◌, length}
-use Rattle.library_calls.proofs.PartLemmas.{Moved}
+use Rattle.std.proofs.Common.{◌≡◌, ◌++◌, min, take}
+use Rattle.library_calls.specs.Sets.{bytes_of}
 use Rattle.library_calls.proofs.set_calls.append.Given as goal
 
 abbrev pub invariant-loop-i : goal.invariant-loop-i
-invariant-loop-i l = Moved l.fn.part l.fn.page l.part l.page l.bytes × (length l.page + l.i ≡ l.i-end)
+invariant-loop-i l = (l.part ≡ l.fn.part ++ take l.i l.page) × (l.bytes ≡ min (bytes_of (take l.i l.page)) 18446744073709551615)

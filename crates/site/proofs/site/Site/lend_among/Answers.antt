@@ -3,7 +3,7 @@ use Rattle.std.proofs.lemmas.Result.{err_from_is_err_and}
 use Rattle.inbox.specs.Sets.{set_of}
 use Rattle.site.specs.Delta.{lacking_of}
 use Rattle.site.proofs.AmongLemmas.{page_filled, skipped_to}
-use Rattle.site.proofs.site.Site.delta_among.Goals as goal
+use Rattle.site.proofs.site.Site.lend_among.Goals as goal
 
 pub returns-in_err-push_wanted-clause-err : goal.returns-in_err-push_wanted-clause-err
 returns-in_err-push_wanted-clause-err c =

@@ -1,7 +1,7 @@
 use Rattle.std.proofs.Common.{◌≡◌, ◌+◌, ◌-◌, ◌≤◌, ◌++◌, length, drop}
 use Rattle.inbox.specs.Sets.{set_of}
 use Rattle.site.specs.Delta.{lacking_of}
-use Rattle.site.proofs.site.Site.delta_among.Given as goal
+use Rattle.site.proofs.site.Site.lend_among.Given as goal
 
 abbrev pub invariant-loop-at : goal.invariant-loop-at
 invariant-loop-at l = record {

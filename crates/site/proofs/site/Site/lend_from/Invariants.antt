@@ -1,7 +1,7 @@
 use Rattle.std.proofs.Common.{◌≡◌, ◌+◌, ◌-◌, ◌≤◌, ◌++◌, length, take, drop}
 use Rattle.inbox.specs.Sets.{set_of}
 use Rattle.site.specs.Delta.{lacking_of}
-use Rattle.site.proofs.site.Site.delta_from.Given as goal
+use Rattle.site.proofs.site.Site.lend_from.Given as goal
 
 abbrev pub invariant-loop-i : goal.invariant-loop-i
 invariant-loop-i l = record {
