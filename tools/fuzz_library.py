@@ -69,7 +69,7 @@ def main() -> int:
         where = os.path.abspath(given.library) if given.library else f"{folder}/library"
         if not given.library:
             library.make(where, library.proved_part())
-        link = [f"-I{where}", f"-L{where}", "-ljumbetai"]
+        link = [f"-I{where}", f"-L{where}", "-l:libjumbetai.a"]
         for it in ("ask", "orders"):
             subprocess.run([library.compiler(), f"{TOP}/examples/c/{it}.c", *link, "-o", it], cwd=folder, check=True)
         parts = [f"{TOP}/bindings/c/{it}" for it in ("fuzz.c", *library.PARTS)]
