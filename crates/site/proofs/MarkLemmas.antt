@@ -1,5 +1,5 @@
 -- Where pages of what a peer lacks go on.
-use Rattle.std.proofs.Common.{◌≡◌, ℕ, ◌+◌, ◌≤◌, List, Option, length, take, drop, min, sym, ap, ◌∙◌, subst}
+use Rattle.std.proofs.Common.{◌≡◌, ℕ, ◌+◌, ◌≤◌, List, Option, length, take, drop, min, sym, ap, ◌∙◌}
 use Rattle.std.proofs.lemmas.List.{drop-drop, drop_min, length-take}
 use Rattle.std.specs.BTreeSet.{BTreeSet}
 use Rattle.attributes.specs.Event.{EventValue}
@@ -22,7 +22,3 @@ mark_moves A events peer own among from place next limit n mark counted page res
       within = within;
       rest = rest ∙ sym (ap (λ k. drop k X) few ∙ drop_min limit X) ∙ ap (drop n) mark.rest ∙ drop-drop n from (delta (set_of A) peer);
     }
-
--- it is a mark of the same peer, behind as many events
-pub mark_of : (A : List EventValue) (q peer own : Sources) (among : Option (BTreeSet ℕ)) (f from place : ℕ) → IsMark A q own among f place → q ≡ peer → f ≡ from → IsMark A peer own among from place
-mark_of A q peer own among f from place mark same behind = subst (λ k. IsMark A peer own among k place) behind (subst (λ p. IsMark A p own among f place) same mark)

@@ -57,8 +57,8 @@ impl Site {
     }
 
     /// Takes the mark out that a site keeps in a peer's delta, where it stands behind as many
-    /// events, and else makes a new one; none where memory is refused. Costs nothing where it is
-    /// kept, else what `delta_page` does before it copies.
+    /// events, and else makes a new one; none where memory is refused. Costs a look at both
+    /// summaries where it is kept, else what `delta_page` does before it copies.
     pub fn take_mark(&mut self, peer: &Summary, from: u64) -> Option<Mark>
         ensures same { self.new ≡ self.old }
         ensures from { IfSome result (λ m. m.from ≡ from) }
