@@ -7,7 +7,7 @@ use Rattle.serde_json.specs.Data.{Data, null, boolean, number, string, array, ob
 use Rattle.serde_json.specs.Written.{has_float}
 use Rattle.std.specs.Map.{keys_of}
 use Rattle.attributes.specs.Members.{value_at}
-use Rattle.attributes.specs.steps.Given.{given_words, is_allowed_value}
+use Rattle.attributes.specs.steps.Given.{FindsAt, given_words, is_allowed_value}
 use Rattle.attributes.specs.Character.{is_filled, is_name}
 use Rattle.attributes.specs.Event.{OfferValue, content_of, event_of, given_member, scalars_of, text, words_of, words_or_empty}
 use Rattle.attributes.specs.Fault.{is_attribute, is_required, is_shallow, has_whole_numbers, first_failed, member_tests, member_fault, payload_tests, payload_fault, max_text, fault, given_all, offered_of, parts_of}
@@ -171,3 +171,14 @@ value_at-passes name [] h = refl
 value_at-passes name (m ∷ ms) h =
     let both = and_parts (is_attribute m.1) (list_all (λ n. is_attribute n.1) ms) h in
     elim (bytes_eq name m.0) as (λ b. is_allowed_value (if b then Some m.1 else value_at name ms) ≡ true) [ true ↦ both.0 | false ↦ value_at-passes name ms both.1 ]
+
+-- ---- one pass over the members
+
+-- where the first of the rest was tested too, what was tested and the rest are still all
+pub all_more : {X : Type 0} (f : X → Bool) (before found whole : Bool) (x : X) (all rest : List X) → all ≡ x ∷ rest → found ≡ (before && f x) → (before && list_all f all) ≡ whole → (found && list_all f rest) ≡ whole
+all_more f true found whole x all rest is tested h = ap (λ b. b && list_all f rest) tested ∙ ap (list_all f) (sym is) ∙ h
+all_more f false found whole x all rest is tested h = ap (λ b. b && list_all f rest) tested ∙ h
+
+-- what was found at a name before a member and in it, or else in the rest, is what all have there
+pub found_more : (sought name : List ℕ) (given : Given) (before after : Option Given) (all rest : List (List ℕ × Given)) (whole : Option Given) → FindsAt sought name given before after → all ≡ (name, given) ∷ rest → option_or before (value_at sought all) ≡ whole → option_or after (value_at sought rest) ≡ whole
+found_more sought name given before after all rest whole finds is h = finds rest ∙ ap (λ ms. option_or before (value_at sought ms)) (sym is) ∙ h

@@ -1,13 +1,13 @@
 //! The tests of members, in the order of their faults.
 
-ghost use Rattle.std.specs.Prelude.{◌≡◌, [], true, Option, unwrap_or};
+ghost use Rattle.std.specs.Prelude.{◌≡◌, [], true, codes, unwrap_or};
 ghost use Rattle.std.specs.List.{list_all};
 ghost use Rattle.std.specs.Option.{option_copied};
 ghost use Rattle.serde_json.specs.View.{view as tree_of};
 ghost use Rattle.attributes.specs.declared.content.Offered.TheVariants.{Tree};
 ghost use Rattle.attributes.specs.Character.{is_filled, is_name};
 ghost use Rattle.attributes.specs.Members.{named, value_at};
-ghost use Rattle.attributes.specs.steps.Given.{given_words, is_allowed_value};
+ghost use Rattle.attributes.specs.steps.Given.{FindsAt, given_words, is_allowed_value};
 ghost use Rattle.attributes.specs.Fault.{is_allowed, is_attribute, is_required, is_time, is_version, member_fault, payload_fault};
 
 use crate::character::{is_name, is_printable};
@@ -81,11 +81,11 @@ fn is_filled_text(given: Option<&Given>, passed: bool) -> bool
 }
 
 /// Whether an attribute that may be there is a filled text; `passed`: all texts are printable.
-fn is_allowed_at(members: &BTreeMap<String, Given>, name: &str, passed: bool) -> bool
-    requires { passed ≡ true → list_all (λ m. is_attribute m.1) (named members.now.entries) ≡ true }
-    ensures { result ≡ is_allowed is_filled (value_at name.now (named members.now.entries)) }
+fn is_allowed_text(given: Option<&Given>, passed: bool) -> bool
+    requires { passed ≡ true → is_allowed_value (option_copied given) ≡ true }
+    ensures { result ≡ is_allowed is_filled (option_copied given.entry) }
 {
-    match at(members, name) {
+    match given {
         None => true,
         given => is_filled_text(given, passed),
     }
@@ -102,70 +102,134 @@ fn is_allowed_time(given: Option<&Given>) -> bool
     }
 }
 
-/// Whether all names pass, and whether all values do.
+/// What one pass over an event's attributes finds: whether all names pass, whether all values do,
+/// and what is given at the names that have tests of their own.
 #[derive(Clone, Copy)]
-struct Passed {
+struct Found<'a> {
     names: bool,
     values: bool,
+    version: Option<&'a Given>,
+    id: Option<&'a Given>,
+    source: Option<&'a Given>,
+    kind: Option<&'a Given>,
+    subject: Option<&'a Given>,
+    time: Option<&'a Given>,
+    content_type: Option<&'a Given>,
+    schema: Option<&'a Given>,
 }
 
-/// Tests the names and the values of all attributes in one pass.
-fn passed_tests(members: &BTreeMap<String, Given>) -> Passed
+/// Whether a value may be that of an attribute.
+fn is_attribute(given: &Given) -> bool
+    ensures { result ≡ is_attribute given.now }
+{
+    match given {
+        Given::Flag(_) => true,
+        Given::Whole(number) => {
+            let _whole = *number;
+            true
+        }
+        Given::Words(text) => is_printable(text.as_str()),
+        Given::Other => false,
+    }
+}
+
+/// What is given at an attribute's name, where nothing was found before and this is its name.
+fn found_at<'a>(
+    before: Option<&'a Given>,
+    sought: &str,
+    name: &str,
+    given: &'a Given,
+) -> Option<&'a Given>
+    ensures { FindsAt sought.now name.now given.now (option_copied before.entry)
+        (option_copied result) }
+{
+    match before {
+        None if name == sought => Some(given),
+        _ => before,
+    }
+}
+
+/// Goes over the names and the values of all attributes once.
+fn found_in(members: &BTreeMap<String, Given>) -> Found<'_>
     ensures names { result.names ≡ list_all (λ m. is_name m.0) (named members.now.entries) }
     ensures values { result.values ≡ list_all (λ m. is_attribute m.1) (named members.now.entries) }
+    ensures version { option_copied result.version
+        ≡ value_at (codes "specversion") (named members.now.entries) }
+    ensures id { option_copied result.id ≡ value_at (codes "id") (named members.now.entries) }
+    ensures source { option_copied result.source
+        ≡ value_at (codes "source") (named members.now.entries) }
+    ensures kind { option_copied result.kind
+        ≡ value_at (codes "type") (named members.now.entries) }
+    ensures subject { option_copied result.subject
+        ≡ value_at (codes "subject") (named members.now.entries) }
+    ensures time { option_copied result.time
+        ≡ value_at (codes "time") (named members.now.entries) }
+    ensures content_type { option_copied result.content_type
+        ≡ value_at (codes "datacontenttype") (named members.now.entries) }
+    ensures schema { option_copied result.schema
+        ≡ value_at (codes "dataschema") (named members.now.entries) }
 {
-    let mut names = true;
-    let mut values = true;
+    let mut found = Found {
+        names: true,
+        values: true,
+        version: None,
+        id: None,
+        source: None,
+        kind: None,
+        subject: None,
+        time: None,
+        content_type: None,
+        schema: None,
+    };
     for (name, given) in members {
-        names = names && is_name(name.as_str());
-        values = values
-            && match given {
-                Given::Flag(_) => true,
-                Given::Whole(number) => {
-                    let _whole = *number;
-                    true
-                }
-                Given::Words(text) => is_printable(text.as_str()),
-                Given::Other => false,
-            };
+        let name = name.as_str();
+        found.names = found.names && is_name(name);
+        found.values = found.values && is_attribute(given);
+        found.version = found_at(found.version, "specversion", name, given);
+        found.id = found_at(found.id, "id", name, given);
+        found.source = found_at(found.source, "source", name, given);
+        found.kind = found_at(found.kind, "type", name, given);
+        found.subject = found_at(found.subject, "subject", name, given);
+        found.time = found_at(found.time, "time", name, given);
+        found.content_type = found_at(found.content_type, "datacontenttype", name, given);
+        found.schema = found_at(found.schema, "dataschema", name, given);
     }
-    Passed { names, values }
+    found
 }
 
-/// The first fault of an event's attributes, where they have one. Texts and names are gone through
-/// once, and eight of the names are looked up.
+/// The first fault of an event's attributes, where they have one. They are gone over once.
 pub(crate) fn first_member_fault(members: &BTreeMap<String, Given>) -> Option<Fault>
     ensures { result ≡ member_fault (named members.now.entries) }
 {
-    let passed = passed_tests(members);
-    if !is_required_version(at(members, "specversion")) {
+    let found = found_in(members);
+    if !is_required_version(found.version) {
         return Some(Fault::SpecVersion);
     }
-    if !is_filled_text(at(members, "id"), passed.values) {
+    if !is_filled_text(found.id, found.values) {
         return Some(Fault::Id);
     }
-    if !is_filled_text(at(members, "source"), passed.values) {
+    if !is_filled_text(found.source, found.values) {
         return Some(Fault::Source);
     }
-    if !is_filled_text(at(members, "type"), passed.values) {
+    if !is_filled_text(found.kind, found.values) {
         return Some(Fault::Kind);
     }
-    if !is_allowed_at(members, "subject", passed.values) {
+    if !is_allowed_text(found.subject, found.values) {
         return Some(Fault::Subject);
     }
-    if !is_allowed_time(at(members, "time")) {
+    if !is_allowed_time(found.time) {
         return Some(Fault::Time);
     }
-    if !is_allowed_at(members, "datacontenttype", passed.values) {
+    if !is_allowed_text(found.content_type, found.values) {
         return Some(Fault::ContentType);
     }
-    if !is_allowed_at(members, "dataschema", passed.values) {
+    if !is_allowed_text(found.schema, found.values) {
         return Some(Fault::Schema);
     }
-    if !passed.names {
+    if !found.names {
         return Some(Fault::ExtensionName);
     }
-    if !passed.values {
+    if !found.values {
         return Some(Fault::ExtensionValue);
     }
     None

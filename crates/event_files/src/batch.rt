@@ -5,10 +5,10 @@ ghost use Rattle.event_json.specs.Reading.{max_input};
 ghost use Rattle.inbox.specs.Sets.{AreEvents};
 ghost use Rattle.event_files.specs.Files.{AreSequenced, IsFault, IsUnnumbered, SpellsBatch};
 
+use crate::key_order::sort_events;
 use crate::refusal::ReportFault;
 use attributes::{Batch, Events, Sequenced};
 use event_json::{ReadFault, read_events};
-use inbox::compare_keys;
 use std::alloc::{AllocError, Global};
 
 /// Reads the events of files: with one thread, or with several.
@@ -16,10 +16,10 @@ pub trait EventReader {
     /// What has to hold for it to read: of one that starts threads, that they may share what it has.
     ghost can_read: { Self → Type 0 };
 
-    /// The events that a file's bytes spell, each with its number, in their order, or sorted so that
-    /// a site takes them fast: by their keys, or in few runs that each are so. That they are sorted
-    /// has no clause, since it serves speed alone. The first fault of the file is answered; want of
-    /// memory never of one that is too large.
+    /// The events that a file's bytes spell, each with its number, in their order, or sorted by
+    /// their keys, so that a site takes them fast. That they are sorted has no clause, since it
+    /// serves speed alone. The first fault of the file is answered; want of memory never of one
+    /// that is too large.
     fn read(&self, alloc: Global, bytes: &[u8], is_sorted: bool) -> Result<Batch, ReportFault>
         requires { can_read self.now }
         ensures ok { IfOk result (SpellsBatch bytes.now is_sorted) }
@@ -77,7 +77,7 @@ pub fn sequenced(alloc: Global, events: Events) -> Result<Vec<Sequenced>, Report
 pub fn in_key_order(alloc: Global, mut events: Vec<Sequenced>) -> Result<Batch, AllocError>
     ensures { IfOk result (IsPermutation events.items) }
 {
-    events.sort_unstable_by(|event, other| compare_keys(event, other));
+    sort_events(alloc, &mut events)?;
     batch_of(alloc, events)
 }
 

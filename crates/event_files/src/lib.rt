@@ -4,6 +4,7 @@
 mod batch;
 mod input;
 mod intake;
+mod key_order;
 mod refusal;
 mod shelf;
 

@@ -278,7 +278,7 @@ fn event_parts(alloc: Global, mut members: Map<String, Value>) -> Result<Parts, 
 }
 
 /// The parts of an event of JSON members that are all attributes. A map's names are in order and
-/// each stands once, so each part is new.
+/// each stands once, so each part is new, and, from the last name on, the first one at once.
 fn attribute_parts(alloc: Global, members: Map<String, Value>) -> Result<Parts, AllocError>
     ensures { IfOk result (λ p. p ≡ record {
       members = spelled (members_view members.entries);
@@ -286,7 +286,7 @@ fn attribute_parts(alloc: Global, members: Map<String, Value>) -> Result<Parts, 
     }) }
 {
     let mut parts = Parts::empty(alloc);
-    for (name, value) in members {
+    for (name, value) in members.into_iter().rev() {
         if let Some(given) = given_in(value) {
             parts.insert(name, given)?;
         }

@@ -1,17 +1,17 @@
 -- Two parts of a batch, cut at a comma, are one.
-use Rattle.std.proofs.Common.{◌≡◌, ◌≤◌, ◌+◌, ◌&&◌, ℕ, List, [], ◌∷◌, ◌++◌, Bool, true, false, true≢false, length, take, Option, Some, None, Result, Ok, IfOk, IfSome, slice_get, slice_range, refl, sym, ap, ap₂, ◌∙◌, subst}
+use Rattle.std.proofs.Common.{◌≡◌, ◌≤◌, ◌+◌, ◌&&◌, ℕ, List, [], ◌∷◌, ◌++◌, Bool, true, false, true≢false, length, take, Option, Some, None, Result, Ok, IfOk, IfSome, slice_get, slice_range, sym, ap, ap₂, ◌∙◌, subst}
 use Rattle.std.specs.Prelude.{is_some}
-use Rattle.std.specs.List.{list_all}
 use Rattle.std.specs.List.Sorted.{IsPermutation}
+use Rattle.std.proofs.lemmas.List.{append_assoc}
 use Rattle.std.proofs.lemmas.List.Folds.{list_all-append}
-use Rattle.std.proofs.lemmas.List.Sorted.{IsPermutation-append, IsPermutation-refl}
+use Rattle.std.proofs.lemmas.List.Sorted.{IsPermutation-append, IsPermutation-append_right, IsPermutation-middle, IsPermutation-refl, IsPermutation-trans}
 use Rattle.attributes.specs.Event.{EventValue}
 use Rattle.attributes.specs.Sequence.{number_of}
 use Rattle.event_json.specs.Parts.{PartsSpellBoth, SpellsSome, WholesRead, part_text}
 use Rattle.event_json.specs.Reading.{max_input}
 use Rattle.inbox.specs.Sets.{AreEvents}
 use Rattle.event_files.specs.Files.{AreSequenced, SpellsBatch}
-use Rattle.parallel_reader.specs.Parts.{IsBatchPart}
+use Rattle.parallel_reader.specs.Parts.{IsBatchPart, MovesFront}
 
 pub of_ok : {A E : Type 0} (P : A → Type 0) (r : Result A E) (a : A) → r ≡ Ok a → IfOk r P → P a
 of_ok P r a e h = subst (λ x. IfOk x P) e h
@@ -28,15 +28,15 @@ are_append [] ys h k = k
 are_append (x ∷ xs) ys h k = (h.0, are_append xs ys h.1 k)
 
 pub joined_part : PartsSpellBoth → (b : List ℕ) (opened closed : Bool) (at : ℕ) (is_sorted : Bool) (l r n : List EventValue) → slice_get b at ≡ Some 44
-    → IsBatchPart (part_text opened (take at b) false) is_sorted l → IsBatchPart (part_text false (slice_range b (at + 1) (length b)) closed) is_sorted r → n ≡ l ++ r → IsBatchPart (part_text opened b closed) is_sorted n
-joined_part law b opened closed at is_sorted l r n comma one two is =
+    → IsBatchPart (part_text opened (take at b) false) is_sorted l → IsBatchPart (part_text false (slice_range b (at + 1) (length b)) closed) is_sorted r → IsPermutation (l ++ r) n → (is_sorted ≡ false → n ≡ l ++ r) → IsBatchPart (part_text opened b closed) is_sorted n
+joined_part law b opened closed at is_sorted l r n comma one two same in_order =
     record {
       events = one.events ++ two.events;
       spells = law b opened closed at one.events two.events comma one.spells two.spells;
       numbered = list_all-append (λ (e : EventValue). is_some (number_of e)) one.events two.events ∙ ap₂ (λ (x y : Bool). x && y) one.numbered two.numbered;
       are = are_append one.events two.events one.are two.are;
-      same = subst (IsPermutation (one.events ++ two.events)) (sym is) (IsPermutation-append one.events l two.events r one.same two.same);
-      in_order = λ s. is ∙ ap₂ (λ (x y : List EventValue). x ++ y) (one.in_order s) (two.in_order s);
+      same = IsPermutation-trans _ _ _ (IsPermutation-append one.events l two.events r one.same two.same) same;
+      in_order = λ s. in_order s ∙ ap₂ (λ (x y : List EventValue). x ++ y) (one.in_order s) (two.in_order s);
     }
 
 pub whole_part : WholesRead → (b : List ℕ) (is_sorted : Bool) (batch : List EventValue) → length b ≤ max_input → IsBatchPart (part_text true b true) is_sorted batch → SpellsBatch b is_sorted batch
@@ -71,3 +71,23 @@ ordered_part b is_sorted l numbered batch spells is have are same =
       same = subst (IsPermutation numbered) (sym same) (IsPermutation-refl numbered);
       in_order = λ f. same;
     }
+
+-- ---- two parts, merged
+
+-- with the first of the one or the other behind what was merged, all are those that were given
+pub moved_first : (given all more first left second : List EventValue) → MovesFront first left all more → IsPermutation given (all ++ (first ++ second)) → IsPermutation given (more ++ (left ++ second))
+moved_first given all more first left second m h =
+    subst (IsPermutation given)
+    (ap (λ (f : List EventValue). all ++ (f ++ second)) m.front
+    ∙ sym (append_assoc all (m.event ∷ []) (left ++ second))
+    ∙ ap (λ (a : List EventValue). a ++ (left ++ second)) (sym m.behind))
+    h
+
+pub moved_second : (given all more first second left : List EventValue) → MovesFront second left all more → IsPermutation given (all ++ (first ++ second)) → IsPermutation given (more ++ (first ++ left))
+moved_second given all more first second left m h =
+    let e = m.event in
+    let seen : IsPermutation given (all ++ (first ++ e ∷ left)) = subst (λ s. IsPermutation given (all ++ (first ++ s))) m.front h in
+    let moved : IsPermutation (all ++ (first ++ e ∷ left)) (all ++ e ∷ (first ++ left)) = IsPermutation-append_right all (first ++ e ∷ left) (e ∷ (first ++ left)) (IsPermutation-middle first e left) in
+    subst (IsPermutation given)
+    (sym (append_assoc all (e ∷ []) (first ++ left)) ∙ ap (λ (a : List EventValue). a ++ (first ++ left)) (sym m.behind))
+    (IsPermutation-trans given (all ++ (first ++ e ∷ left)) (all ++ e ∷ (first ++ left)) seen moved)

@@ -1,12 +1,14 @@
 //! Parts of a batch, each read with a thread of its own.
-ghost use Rattle.std.specs.Prelude.{◌≡◌, ◌<◌, false, IfOk, IfSome};
+ghost use Rattle.std.specs.Prelude.{◌≡◌, ◌<◌, ◌++◌, false, length, IfOk, IfSome, OnOk};
+ghost use Rattle.std.specs.List.Sorted.{IsPermutation};
 ghost use Rattle.std.specs.Thread.{IsSync};
 ghost use Rattle.event_json.specs.Parts.{part_text};
-ghost use Rattle.parallel_reader.specs.Parts.{IsBatchPart};
+ghost use Rattle.parallel_reader.specs.Parts.{IsBatchPart, MovesFront};
 
 use attributes::Batch;
 use event_files::{ReportFault, append, batch_of, in_key_order, sequenced};
 use event_json::{batch_parts_join, next_comma, read_part_events};
+use inbox::compare_keys;
 use std::alloc::{AllocError, Global};
 use std::thread::{Threads, join};
 
@@ -54,8 +56,41 @@ pub fn read_halves<R: Threads + Sync>(
     let Some(more) = rest? else {
         return Ok(None);
     };
+    if is_sorted {
+        return Ok(Some(merge(alloc, events, more)?));
+    }
     append(&mut events, more)?;
     Ok(Some(events))
+}
+
+/// Moves the first event of a part behind those of others.
+fn move_front(part: &mut Batch, all: &mut Batch) -> Result<(), AllocError>
+    requires { 0 < length part.old }
+    ensures { OnOk result (MovesFront part.old part.new all.old all.new) }
+{
+    match part.take_front() {
+        Some(event) => Ok(all.push(event)?),
+        None => Ok(()),
+    }
+}
+
+/// The events of two parts of a file, each in key order, in one key order: a site would else seek
+/// the place of each. That they are in order has no clause, since it serves speed alone.
+fn merge(alloc: Global, mut first: Batch, mut second: Batch) -> Result<Batch, AllocError>
+    ensures { IfOk result (IsPermutation (first ++ second)) }
+{
+    let mut all = Batch::empty(alloc);
+    while !first.is_empty() && !second.is_empty() {
+        let moved = if compare_keys(first.at(0), second.at(0)).is_gt() {
+            move_front(&mut second, &mut all)
+        } else {
+            move_front(&mut first, &mut all)
+        };
+        moved?;
+    }
+    append(&mut all, first)?;
+    append(&mut all, second)?;
+    Ok(all)
 }
 
 /// The events of a part of a large file's batch, with numbers. `None` says nothing of the bytes.

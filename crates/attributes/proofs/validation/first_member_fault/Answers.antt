@@ -1,15 +1,31 @@
-use Rattle.std.proofs.Common.{◌∙◌, ap, sym}
+use Rattle.std.proofs.Common.{◌≡◌, ◌∙◌, ℕ, Bool, true, List, Option, ap, sym}
 use Rattle.std.specs.Prelude.{codes}
-use Rattle.attributes.specs.Members.{named}
+use Rattle.std.specs.List.{list_all}
+use Rattle.attributes.specs.Fault.{is_attribute}
+use Rattle.attributes.specs.Members.{named, value_at}
+use Rattle.attributes.specs.declared.scalar.Given.{Given}
 use Rattle.attributes.specs.steps.Given.{is_allowed_value}
 use Rattle.attributes.proofs.FaultLemmas.{value_at-passes}
 use Rattle.attributes.proofs.validation.first_member_fault.Goals as goal
 
+-- what was found at a name may be an attribute, where all values pass
+allowed : (name : List ℕ) (ms : List (List ℕ × Given)) (found : Option Given) (values : Bool) → found ≡ value_at name ms → values ≡ list_all (λ m. is_attribute m.1) ms → values ≡ true → is_allowed_value found ≡ true
+allowed name ms found values is all passed = ap is_allowed_value is ∙ value_at-passes name ms (sym all ∙ passed)
+
 pub is_filled_text-requires : goal.is_filled_text-requires
-is_filled_text-requires c = λ passed. ap is_allowed_value c.at-2.ensures ∙ value_at-passes (codes "id") (named c.args.members.now.entries) (sym c.passed_tests-passed.ensures.values ∙ passed)
+is_filled_text-requires c = allowed (codes "id") (named c.args.members.now.entries) _ _ c.found_in-found.ensures.id c.found_in-found.ensures.values
 
 pub is_filled_text-requires-2 : goal.is_filled_text-requires-2
-is_filled_text-requires-2 c = λ passed. ap is_allowed_value c.at-3.ensures ∙ value_at-passes (codes "source") (named c.args.members.now.entries) (sym c.passed_tests-passed.ensures.values ∙ passed)
+is_filled_text-requires-2 c = allowed (codes "source") (named c.args.members.now.entries) _ _ c.found_in-found.ensures.source c.found_in-found.ensures.values
 
 pub is_filled_text-requires-3 : goal.is_filled_text-requires-3
-is_filled_text-requires-3 c = λ passed. ap is_allowed_value c.at-4.ensures ∙ value_at-passes (codes "type") (named c.args.members.now.entries) (sym c.passed_tests-passed.ensures.values ∙ passed)
+is_filled_text-requires-3 c = allowed (codes "type") (named c.args.members.now.entries) _ _ c.found_in-found.ensures.kind c.found_in-found.ensures.values
+
+pub is_allowed_text-requires : goal.is_allowed_text-requires
+is_allowed_text-requires c = allowed (codes "subject") (named c.args.members.now.entries) _ _ c.found_in-found.ensures.subject c.found_in-found.ensures.values
+
+pub is_allowed_text-requires-2 : goal.is_allowed_text-requires-2
+is_allowed_text-requires-2 c = allowed (codes "datacontenttype") (named c.args.members.now.entries) _ _ c.found_in-found.ensures.content_type c.found_in-found.ensures.values
+
+pub is_allowed_text-requires-3 : goal.is_allowed_text-requires-3
+is_allowed_text-requires-3 c = allowed (codes "dataschema") (named c.args.members.now.entries) _ _ c.found_in-found.ensures.schema c.found_in-found.ensures.values
