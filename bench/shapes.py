@@ -173,6 +173,14 @@ def shapes(size: int) -> Iterator[tuple[str, ...]]:
     ids = ordered(size, "ascending", by_id)
     yield "ids descending", ordered(size, "descending", by_id), ids
     yield "ids shuffled", ordered(size, "shuffled", by_id), ids
+    first, *rest = ids[1:-1].split(",\n")[::-1]
+    yield "ids ascending, the last one first", "[" + ",\n".join([first, *rest[::-1]]) + "]", ids
+
+    def by_long_id(place: int) -> str:
+        return event(place, key="k" * 400 + f"{place:07d}")
+
+    long_ids = ordered(size, "ascending", by_long_id)
+    yield "long ids that begin alike, shuffled", ordered(size, "shuffled", by_long_id), long_ids
     one_number = ordered(size, "shuffled", lambda place: event(place, key=f"e{place:07d}", number=1))
     yield "ids shuffled, one number", one_number, ids
     texts = of_one_hash, of_many_hashes
