@@ -1,10 +1,10 @@
 -- Two parts of a batch, cut at a comma, are one.
-use Rattle.std.proofs.Common.{◌≡◌, ◌≤◌, ◌+◌, ◌&&◌, ℕ, List, [], ◌∷◌, ◌++◌, Bool, true, false, true≢false, length, take, Option, Some, None, Result, Ok, IfOk, IfSome, slice_get, slice_range, sym, ap, ap₂, ◌∙◌, subst}
+use Rattle.std.proofs.Common.{◌≡◌, ◌≤◌, ◌+◌, ◌-◌, ◌&&◌, ℕ, List, [], ◌∷◌, ◌++◌, Bool, true, false, true≢false, length, take, Option, Some, None, Result, Ok, IfOk, IfSome, slice_get, slice_range, sym, ap, ap₂, ◌∙◌, subst, arith}
 use Rattle.std.specs.Prelude.{is_some}
 use Rattle.std.specs.List.Sorted.{IsPermutation}
-use Rattle.std.proofs.lemmas.List.{append_assoc}
+use Rattle.std.proofs.lemmas.List.{append_assoc, length-append}
 use Rattle.std.proofs.lemmas.List.Folds.{list_all-append}
-use Rattle.std.proofs.lemmas.List.Sorted.{IsPermutation-append, IsPermutation-append_right, IsPermutation-middle, IsPermutation-refl, IsPermutation-trans}
+use Rattle.std.proofs.lemmas.List.Sorted.{IsPermutation-append, IsPermutation-append_comm, IsPermutation-append_left, IsPermutation-refl, IsPermutation-trans, length_permutation}
 use Rattle.attributes.specs.Event.{EventValue}
 use Rattle.attributes.specs.Sequence.{number_of}
 use Rattle.event_json.specs.Parts.{PartsSpellBoth, SpellsSome, WholesRead, part_text}
@@ -74,20 +74,32 @@ ordered_part b is_sorted l numbered batch spells is have are same =
 
 -- ---- two parts, merged
 
--- with the first of the one or the other behind what was merged, all are those that were given
-pub moved_first : (given all more first left second : List EventValue) → MovesFront first left all more → IsPermutation given (all ++ (first ++ second)) → IsPermutation given (more ++ (left ++ second))
-moved_first given all more first left second m h =
+-- with the first of the second part behind the other, they are the events that were given
+pub moved : (given first more second left : List EventValue) → MovesFront second left first more → IsPermutation given (first ++ second) → IsPermutation given (more ++ left)
+moved given first more second left m h =
     subst (IsPermutation given)
-    (ap (λ (f : List EventValue). all ++ (f ++ second)) m.front
-    ∙ sym (append_assoc all (m.event ∷ []) (left ++ second))
-    ∙ ap (λ (a : List EventValue). a ++ (left ++ second)) (sym m.behind))
+    (ap (λ (s : List EventValue). first ++ s) m.front
+    ∙ sym (append_assoc first (m.event ∷ []) left)
+    ∙ ap (λ (f : List EventValue). f ++ left) (sym m.behind))
     h
 
-pub moved_second : (given all more first second left : List EventValue) → MovesFront second left all more → IsPermutation given (all ++ (first ++ second)) → IsPermutation given (more ++ (first ++ left))
-moved_second given all more first second left m h =
-    let e = m.event in
-    let seen : IsPermutation given (all ++ (first ++ e ∷ left)) = subst (λ s. IsPermutation given (all ++ (first ++ s))) m.front h in
-    let moved : IsPermutation (all ++ (first ++ e ∷ left)) (all ++ e ∷ (first ++ left)) = IsPermutation-append_right all (first ++ e ∷ left) (e ∷ (first ++ left)) (IsPermutation-middle first e left) in
-    subst (IsPermutation given)
-    (sym (append_assoc all (e ∷ []) (first ++ left)) ∙ ap (λ (a : List EventValue). a ++ (first ++ left)) (sym m.behind))
-    (IsPermutation-trans given (all ++ (first ++ e ∷ left)) (all ++ e ∷ (first ++ left)) seen moved)
+-- and with the first one's in another order
+pub rotated : (given first other second : List EventValue) → IsPermutation first other → IsPermutation given (first ++ second) → IsPermutation given (other ++ second)
+rotated given first other second p h = IsPermutation-trans given (first ++ second) (other ++ second) h (IsPermutation-append_left second first other p)
+
+-- a part whose first event went behind its last is that part, in another order
+pub turned : (given part left more : List EventValue) (e : EventValue) → part ≡ e ∷ left → more ≡ left ++ e ∷ [] → IsPermutation given part → IsPermutation given more
+turned given part left more e front behind h =
+    IsPermutation-trans given (e ∷ left) more
+    (subst (IsPermutation given) front h)
+    (subst (IsPermutation (e ∷ left)) (sym behind) (IsPermutation-append_comm (e ∷ []) left))
+
+pub few_more : (n : ℕ) (first more : List EventValue) (e : EventValue) → more ≡ first ++ e ∷ [] → n ≤ length first → n ≤ length more
+few_more n first more e is few =
+    let long : length more ≡ length first + 1 = ap length is ∙ length-append first (e ∷ []) in
+    omega (arith, long, few)
+
+pub few_turned : (n : ℕ) (first other : List EventValue) → IsPermutation first other → n ≤ length first → n - 1 ≤ length other
+few_turned n first other p few =
+    let long : length other ≡ length first = length_permutation first other p in
+    omega (arith, long, few)

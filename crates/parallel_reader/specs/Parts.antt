@@ -16,8 +16,8 @@ pub record IsBatchPart (b : List ℕ) (is_sorted : Bool) (batch : List EventValu
   pub same : IsPermutation events batch
   pub in_order : is_sorted ≡ false → batch ≡ events
 
--- the first event of a part of a file now stands behind all those of others
-pub record MovesFront (part left all more : List EventValue) : Type 0 where
+-- the first event of a part of a file now stands behind those of another
+pub record MovesFront (part left other more : List EventValue) : Type 0 where
   pub event : EventValue
   pub front : part ≡ event ∷ left
-  pub behind : more ≡ all ++ event ∷ []
+  pub behind : more ≡ other ++ event ∷ []

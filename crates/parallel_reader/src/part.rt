@@ -57,40 +57,55 @@ pub fn read_halves<R: Threads + Sync>(
         return Ok(None);
     };
     if is_sorted {
-        return Ok(Some(merge(alloc, events, more)?));
+        return Ok(Some(merge(events, more)?));
     }
     append(&mut events, more)?;
     Ok(Some(events))
 }
 
-/// Moves the first event of a part behind those of others.
-fn move_front(part: &mut Batch, all: &mut Batch) -> Result<(), AllocError>
+/// Moves the first event of a part behind those of another.
+fn move_front(part: &mut Batch, other: &mut Batch) -> Result<(), AllocError>
     requires { 0 < length part.old }
-    ensures { OnOk result (MovesFront part.old part.new all.old all.new) }
+    ensures { OnOk result (MovesFront part.old part.new other.old other.new) }
 {
     match part.take_front() {
-        Some(event) => Ok(all.push(event)?),
+        Some(event) => Ok(other.push(event)?),
         None => Ok(()),
     }
 }
 
+/// Moves the first events of a part, so many, behind its last.
+fn rotate(part: &mut Batch, count: u64) -> Result<(), AllocError>
+    ensures { OnOk result (IsPermutation part.old part.new) }
+{
+    for _ in 0..count {
+        match part.take_front() {
+            Some(event) => part.push(event)?,
+            None => {}
+        }
+    }
+    Ok(())
+}
+
 /// The events of two parts of a file, each in key order, in one key order: a site would else seek
-/// the place of each. That they are in order has no clause, since it serves speed alone.
-fn merge(alloc: Global, mut first: Batch, mut second: Batch) -> Result<Batch, AllocError>
+/// the place of each. That they are in order has no clause, since it serves speed alone. They come
+/// behind those of the first part that are left, so that no third list is held.
+fn merge(mut first: Batch, mut second: Batch) -> Result<Batch, AllocError>
     ensures { IfOk result (IsPermutation (first ++ second)) }
 {
-    let mut all = Batch::empty(alloc);
-    while !first.is_empty() && !second.is_empty() {
+    let mut left = first.len();
+    while left > 0 && !second.is_empty() {
         let moved = if compare_keys(first.at(0), second.at(0)).is_gt() {
-            move_front(&mut second, &mut all)
+            move_front(&mut second, &mut first)
         } else {
-            move_front(&mut first, &mut all)
+            left -= 1;
+            rotate(&mut first, 1)
         };
         moved?;
     }
-    append(&mut all, first)?;
-    append(&mut all, second)?;
-    Ok(all)
+    rotate(&mut first, left)?;
+    append(&mut first, second)?;
+    Ok(first)
 }
 
 /// The events of a part of a large file's batch, with numbers. `None` says nothing of the bytes.
