@@ -16,10 +16,10 @@ pub trait EventReader {
     /// What has to hold for it to read: of one that starts threads, that they may share what it has.
     ghost can_read: { Self → Type 0 };
 
-    /// The events that a file's bytes spell, each with its number, in their order, or sorted by
-    /// their keys, so that a site takes them fast. That they are sorted has no clause, since it
-    /// serves speed alone. The first fault of the file is answered; want of memory never of one
-    /// that is too large.
+    /// The events that a file's bytes spell, each with its number, in their order, or sorted so that
+    /// a site takes them fast: by their keys, or in few runs that each are so. That they are sorted
+    /// has no clause, since it serves speed alone. The first fault of the file is answered; want of
+    /// memory never of one that is too large.
     fn read(&self, alloc: Global, bytes: &[u8], is_sorted: bool) -> Result<Batch, ReportFault>
         requires { can_read self.now }
         ensures ok { IfOk result (SpellsBatch bytes.now is_sorted) }

@@ -1,17 +1,17 @@
 -- Two parts of a batch, cut at a comma, are one.
-use Rattle.std.proofs.Common.{◌≡◌, ◌≤◌, ◌+◌, ◌-◌, ◌&&◌, ℕ, List, [], ◌∷◌, ◌++◌, Bool, true, false, true≢false, length, take, Option, Some, None, Result, Ok, IfOk, IfSome, slice_get, slice_range, sym, ap, ap₂, ◌∙◌, subst, arith}
+use Rattle.std.proofs.Common.{◌≡◌, ◌≤◌, ◌+◌, ◌&&◌, ℕ, List, [], ◌∷◌, ◌++◌, Bool, true, false, true≢false, length, take, Option, Some, None, Result, Ok, IfOk, IfSome, slice_get, slice_range, refl, sym, ap, ap₂, ◌∙◌, subst}
 use Rattle.std.specs.Prelude.{is_some}
+use Rattle.std.specs.List.{list_all}
 use Rattle.std.specs.List.Sorted.{IsPermutation}
-use Rattle.std.proofs.lemmas.List.{append_assoc, length-append}
 use Rattle.std.proofs.lemmas.List.Folds.{list_all-append}
-use Rattle.std.proofs.lemmas.List.Sorted.{IsPermutation-append, IsPermutation-append_comm, IsPermutation-append_left, IsPermutation-refl, IsPermutation-trans, length_permutation}
+use Rattle.std.proofs.lemmas.List.Sorted.{IsPermutation-append, IsPermutation-refl}
 use Rattle.attributes.specs.Event.{EventValue}
 use Rattle.attributes.specs.Sequence.{number_of}
 use Rattle.event_json.specs.Parts.{PartsSpellBoth, SpellsSome, WholesRead, part_text}
 use Rattle.event_json.specs.Reading.{max_input}
 use Rattle.inbox.specs.Sets.{AreEvents}
 use Rattle.event_files.specs.Files.{AreSequenced, SpellsBatch}
-use Rattle.parallel_reader.specs.Parts.{IsBatchPart, MovesFront}
+use Rattle.parallel_reader.specs.Parts.{IsBatchPart}
 
 pub of_ok : {A E : Type 0} (P : A → Type 0) (r : Result A E) (a : A) → r ≡ Ok a → IfOk r P → P a
 of_ok P r a e h = subst (λ x. IfOk x P) e h
@@ -28,15 +28,15 @@ are_append [] ys h k = k
 are_append (x ∷ xs) ys h k = (h.0, are_append xs ys h.1 k)
 
 pub joined_part : PartsSpellBoth → (b : List ℕ) (opened closed : Bool) (at : ℕ) (is_sorted : Bool) (l r n : List EventValue) → slice_get b at ≡ Some 44
-    → IsBatchPart (part_text opened (take at b) false) is_sorted l → IsBatchPart (part_text false (slice_range b (at + 1) (length b)) closed) is_sorted r → IsPermutation (l ++ r) n → (is_sorted ≡ false → n ≡ l ++ r) → IsBatchPart (part_text opened b closed) is_sorted n
-joined_part law b opened closed at is_sorted l r n comma one two same in_order =
+    → IsBatchPart (part_text opened (take at b) false) is_sorted l → IsBatchPart (part_text false (slice_range b (at + 1) (length b)) closed) is_sorted r → n ≡ l ++ r → IsBatchPart (part_text opened b closed) is_sorted n
+joined_part law b opened closed at is_sorted l r n comma one two is =
     record {
       events = one.events ++ two.events;
       spells = law b opened closed at one.events two.events comma one.spells two.spells;
       numbered = list_all-append (λ (e : EventValue). is_some (number_of e)) one.events two.events ∙ ap₂ (λ (x y : Bool). x && y) one.numbered two.numbered;
       are = are_append one.events two.events one.are two.are;
-      same = IsPermutation-trans _ _ _ (IsPermutation-append one.events l two.events r one.same two.same) same;
-      in_order = λ s. in_order s ∙ ap₂ (λ (x y : List EventValue). x ++ y) (one.in_order s) (two.in_order s);
+      same = subst (IsPermutation (one.events ++ two.events)) (sym is) (IsPermutation-append one.events l two.events r one.same two.same);
+      in_order = λ s. is ∙ ap₂ (λ (x y : List EventValue). x ++ y) (one.in_order s) (two.in_order s);
     }
 
 pub whole_part : WholesRead → (b : List ℕ) (is_sorted : Bool) (batch : List EventValue) → length b ≤ max_input → IsBatchPart (part_text true b true) is_sorted batch → SpellsBatch b is_sorted batch
@@ -71,35 +71,3 @@ ordered_part b is_sorted l numbered batch spells is have are same =
       same = subst (IsPermutation numbered) (sym same) (IsPermutation-refl numbered);
       in_order = λ f. same;
     }
-
--- ---- two parts, merged
-
--- with the first of the second part behind the other, they are the events that were given
-pub moved : (given first more second left : List EventValue) → MovesFront second left first more → IsPermutation given (first ++ second) → IsPermutation given (more ++ left)
-moved given first more second left m h =
-    subst (IsPermutation given)
-    (ap (λ (s : List EventValue). first ++ s) m.front
-    ∙ sym (append_assoc first (m.event ∷ []) left)
-    ∙ ap (λ (f : List EventValue). f ++ left) (sym m.behind))
-    h
-
--- and with the first one's in another order
-pub rotated : (given first other second : List EventValue) → IsPermutation first other → IsPermutation given (first ++ second) → IsPermutation given (other ++ second)
-rotated given first other second p h = IsPermutation-trans given (first ++ second) (other ++ second) h (IsPermutation-append_left second first other p)
-
--- a part whose first event went behind its last is that part, in another order
-pub turned : (given part left more : List EventValue) (e : EventValue) → part ≡ e ∷ left → more ≡ left ++ e ∷ [] → IsPermutation given part → IsPermutation given more
-turned given part left more e front behind h =
-    IsPermutation-trans given (e ∷ left) more
-    (subst (IsPermutation given) front h)
-    (subst (IsPermutation (e ∷ left)) (sym behind) (IsPermutation-append_comm (e ∷ []) left))
-
-pub few_more : (n : ℕ) (first more : List EventValue) (e : EventValue) → more ≡ first ++ e ∷ [] → n ≤ length first → n ≤ length more
-few_more n first more e is few =
-    let long : length more ≡ length first + 1 = ap length is ∙ length-append first (e ∷ []) in
-    omega (arith, long, few)
-
-pub few_turned : (n : ℕ) (first other : List EventValue) → IsPermutation first other → n ≤ length first → n - 1 ≤ length other
-few_turned n first other p few =
-    let long : length other ≡ length first = length_permutation first other p in
-    omega (arith, long, few)

@@ -1,5 +1,5 @@
 -- Parts of a batch, read side by side.
-use Rattle.std.specs.Prelude.{◌≡◌, ℕ, List, [], ◌∷◌, ◌++◌, Bool, false}
+use Rattle.std.specs.Prelude.{◌≡◌, ℕ, List, Bool, false}
 use Rattle.std.specs.List.Sorted.{IsPermutation}
 use Rattle.attributes.specs.Event.{EventValue}
 use Rattle.event_json.specs.Parts.{SpellsSome}
@@ -15,9 +15,3 @@ pub record IsBatchPart (b : List ℕ) (is_sorted : Bool) (batch : List EventValu
   pub are : AreEvents events
   pub same : IsPermutation events batch
   pub in_order : is_sorted ≡ false → batch ≡ events
-
--- the first event of a part of a file now stands behind those of another
-pub record MovesFront (part left other more : List EventValue) : Type 0 where
-  pub event : EventValue
-  pub front : part ≡ event ∷ left
-  pub behind : more ≡ other ++ event ∷ []

@@ -1,14 +1,12 @@
 //! Parts of a batch, each read with a thread of its own.
-ghost use Rattle.std.specs.Prelude.{◌≡◌, ◌<◌, ◌++◌, false, length, IfOk, IfSome, OnOk};
-ghost use Rattle.std.specs.List.Sorted.{IsPermutation};
+ghost use Rattle.std.specs.Prelude.{◌≡◌, ◌<◌, false, IfOk, IfSome};
 ghost use Rattle.std.specs.Thread.{IsSync};
 ghost use Rattle.event_json.specs.Parts.{part_text};
-ghost use Rattle.parallel_reader.specs.Parts.{IsBatchPart, MovesFront};
+ghost use Rattle.parallel_reader.specs.Parts.{IsBatchPart};
 
 use attributes::Batch;
 use event_files::{ReportFault, append, batch_of, in_key_order, sequenced};
 use event_json::{batch_parts_join, next_comma, read_part_events};
-use inbox::compare_keys;
 use std::alloc::{AllocError, Global};
 use std::thread::{Threads, join};
 
@@ -56,56 +54,8 @@ pub fn read_halves<R: Threads + Sync>(
     let Some(more) = rest? else {
         return Ok(None);
     };
-    if is_sorted {
-        return Ok(Some(merge(events, more)?));
-    }
     append(&mut events, more)?;
     Ok(Some(events))
-}
-
-/// Moves the first event of a part behind those of another.
-fn move_front(part: &mut Batch, other: &mut Batch) -> Result<(), AllocError>
-    requires { 0 < length part.old }
-    ensures { OnOk result (MovesFront part.old part.new other.old other.new) }
-{
-    match part.take_front() {
-        Some(event) => Ok(other.push(event)?),
-        None => Ok(()),
-    }
-}
-
-/// Moves the first events of a part, so many, behind its last.
-fn rotate(part: &mut Batch, count: u64) -> Result<(), AllocError>
-    ensures { OnOk result (IsPermutation part.old part.new) }
-{
-    for _ in 0..count {
-        match part.take_front() {
-            Some(event) => part.push(event)?,
-            None => {}
-        }
-    }
-    Ok(())
-}
-
-/// The events of two parts of a file, each in key order, in one key order: a site would else seek
-/// the place of each. That they are in order has no clause, since it serves speed alone. They come
-/// behind those of the first part that are left, so that no third list is held.
-fn merge(mut first: Batch, mut second: Batch) -> Result<Batch, AllocError>
-    ensures { IfOk result (IsPermutation (first ++ second)) }
-{
-    let mut left = first.len();
-    while left > 0 && !second.is_empty() {
-        let moved = if compare_keys(first.at(0), second.at(0)).is_gt() {
-            move_front(&mut second, &mut first)
-        } else {
-            left -= 1;
-            rotate(&mut first, 1)
-        };
-        moved?;
-    }
-    rotate(&mut first, left)?;
-    append(&mut first, second)?;
-    Ok(first)
 }
 
 /// The events of a part of a large file's batch, with numbers. `None` says nothing of the bytes.

@@ -1,4 +1,4 @@
-use Rattle.std.proofs.Common.{sym, subst}
+use Rattle.std.proofs.Common.{◌∙◌, sym, subst}
 use Rattle.event_json.specs.Parts.{part_text}
 use Rattle.parallel_reader.specs.Parts.{IsBatchPart}
 use Rattle.parallel_reader.proofs.PartLemmas.{ordered_part, sorted_part, of_some}
