@@ -173,8 +173,8 @@ def shapes(size: int) -> Iterator[tuple[str, ...]]:
     ids = ordered(size, "ascending", by_id)
     yield "ids descending", ordered(size, "descending", by_id), ids
     yield "ids shuffled", ordered(size, "shuffled", by_id), ids
-    first, *rest = ids[1:-1].split(",\n")[::-1]
-    yield "ids ascending, the last one first", "[" + ",\n".join([first, *rest[::-1]]) + "]", ids
+    *others, last = ids[1:-1].split(",\n")
+    yield "ids ascending, the last one first", "[" + ",\n".join([last, *others]) + "]", ids
 
     def by_long_id(place: int) -> str:
         return event(place, key="k" * 400 + f"{place:07d}")

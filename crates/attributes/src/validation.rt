@@ -105,7 +105,7 @@ fn is_allowed_time(given: Option<&Given>) -> bool
 /// What one pass over an event's attributes finds: whether all names pass, whether all values do,
 /// and what is given at the names that have tests of their own.
 #[derive(Clone, Copy)]
-struct Found<'a> {
+struct Survey<'a> {
     names: bool,
     values: bool,
     version: Option<&'a Given>,
@@ -133,8 +133,8 @@ fn is_attribute(given: &Given) -> bool
     }
 }
 
-/// What is given at an attribute's name, where nothing was found before and this is its name.
-fn found_at<'a>(
+/// What is given at an attribute's name: what was found before, else this, where it is its name.
+fn first_at<'a>(
     before: Option<&'a Given>,
     sought: &str,
     name: &str,
@@ -149,8 +149,9 @@ fn found_at<'a>(
     }
 }
 
-/// Goes over the names and the values of all attributes once.
-fn found_in(members: &BTreeMap<String, Given>) -> Found<'_>
+/// Goes over an event's attributes once: tests their names and values, and finds what is given at
+/// the names that have tests of their own.
+fn go_over(members: &BTreeMap<String, Given>) -> Survey<'_>
     ensures names { result.names ≡ list_all (λ m. is_name m.0) (named members.now.entries) }
     ensures values { result.values ≡ list_all (λ m. is_attribute m.1) (named members.now.entries) }
     ensures version { option_copied result.version
@@ -169,7 +170,7 @@ fn found_in(members: &BTreeMap<String, Given>) -> Found<'_>
     ensures schema { option_copied result.schema
         ≡ value_at (codes "dataschema") (named members.now.entries) }
 {
-    let mut found = Found {
+    let mut found = Survey {
         names: true,
         values: true,
         version: None,
@@ -185,14 +186,14 @@ fn found_in(members: &BTreeMap<String, Given>) -> Found<'_>
         let name = name.as_str();
         found.names = found.names && is_name(name);
         found.values = found.values && is_attribute(given);
-        found.version = found_at(found.version, "specversion", name, given);
-        found.id = found_at(found.id, "id", name, given);
-        found.source = found_at(found.source, "source", name, given);
-        found.kind = found_at(found.kind, "type", name, given);
-        found.subject = found_at(found.subject, "subject", name, given);
-        found.time = found_at(found.time, "time", name, given);
-        found.content_type = found_at(found.content_type, "datacontenttype", name, given);
-        found.schema = found_at(found.schema, "dataschema", name, given);
+        found.version = first_at(found.version, "specversion", name, given);
+        found.id = first_at(found.id, "id", name, given);
+        found.source = first_at(found.source, "source", name, given);
+        found.kind = first_at(found.kind, "type", name, given);
+        found.subject = first_at(found.subject, "subject", name, given);
+        found.time = first_at(found.time, "time", name, given);
+        found.content_type = first_at(found.content_type, "datacontenttype", name, given);
+        found.schema = first_at(found.schema, "dataschema", name, given);
     }
     found
 }
@@ -201,7 +202,7 @@ fn found_in(members: &BTreeMap<String, Given>) -> Found<'_>
 pub(crate) fn first_member_fault(members: &BTreeMap<String, Given>) -> Option<Fault>
     ensures { result ≡ member_fault (named members.now.entries) }
 {
-    let found = found_in(members);
+    let found = go_over(members);
     if !is_required_version(found.version) {
         return Some(Fault::SpecVersion);
     }

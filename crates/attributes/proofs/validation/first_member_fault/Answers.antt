@@ -13,19 +13,19 @@ allowed : (name : List ℕ) (ms : List (List ℕ × Given)) (found : Option Give
 allowed name ms found values is all passed = ap is_allowed_value is ∙ value_at-passes name ms (sym all ∙ passed)
 
 pub is_filled_text-requires : goal.is_filled_text-requires
-is_filled_text-requires c = allowed (codes "id") (named c.args.members.now.entries) _ _ c.found_in-found.ensures.id c.found_in-found.ensures.values
+is_filled_text-requires c = allowed (codes "id") (named c.args.members.now.entries) _ _ c.go_over-found.ensures.id c.go_over-found.ensures.values
 
 pub is_filled_text-requires-2 : goal.is_filled_text-requires-2
-is_filled_text-requires-2 c = allowed (codes "source") (named c.args.members.now.entries) _ _ c.found_in-found.ensures.source c.found_in-found.ensures.values
+is_filled_text-requires-2 c = allowed (codes "source") (named c.args.members.now.entries) _ _ c.go_over-found.ensures.source c.go_over-found.ensures.values
 
 pub is_filled_text-requires-3 : goal.is_filled_text-requires-3
-is_filled_text-requires-3 c = allowed (codes "type") (named c.args.members.now.entries) _ _ c.found_in-found.ensures.kind c.found_in-found.ensures.values
+is_filled_text-requires-3 c = allowed (codes "type") (named c.args.members.now.entries) _ _ c.go_over-found.ensures.kind c.go_over-found.ensures.values
 
 pub is_allowed_text-requires : goal.is_allowed_text-requires
-is_allowed_text-requires c = allowed (codes "subject") (named c.args.members.now.entries) _ _ c.found_in-found.ensures.subject c.found_in-found.ensures.values
+is_allowed_text-requires c = allowed (codes "subject") (named c.args.members.now.entries) _ _ c.go_over-found.ensures.subject c.go_over-found.ensures.values
 
 pub is_allowed_text-requires-2 : goal.is_allowed_text-requires-2
-is_allowed_text-requires-2 c = allowed (codes "datacontenttype") (named c.args.members.now.entries) _ _ c.found_in-found.ensures.content_type c.found_in-found.ensures.values
+is_allowed_text-requires-2 c = allowed (codes "datacontenttype") (named c.args.members.now.entries) _ _ c.go_over-found.ensures.content_type c.go_over-found.ensures.values
 
 pub is_allowed_text-requires-3 : goal.is_allowed_text-requires-3
-is_allowed_text-requires-3 c = allowed (codes "dataschema") (named c.args.members.now.entries) _ _ c.found_in-found.ensures.schema c.found_in-found.ensures.values
+is_allowed_text-requires-3 c = allowed (codes "dataschema") (named c.args.members.now.entries) _ _ c.go_over-found.ensures.schema c.go_over-found.ensures.values

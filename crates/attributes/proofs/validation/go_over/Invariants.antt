@@ -5,7 +5,7 @@ use Rattle.std.specs.Option.{option_copied, option_or}
 use Rattle.attributes.specs.Character.{is_name}
 use Rattle.attributes.specs.Fault.{is_attribute}
 use Rattle.attributes.specs.Members.{named, value_at}
-use Rattle.attributes.proofs.validation.found_in.Given as goal
+use Rattle.attributes.proofs.validation.go_over.Given as goal
 
 abbrev pub invariant-loop-name : goal.invariant-loop-name
 invariant-loop-name l = record {
