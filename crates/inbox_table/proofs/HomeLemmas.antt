@@ -132,6 +132,24 @@ rule_of Two ShiftedUpgraded has rule db h = h.1.1.1.0
 rule_of One _ has rule db h = absurd has
 rule_of Two _ has rule db h = absurd has
 
+-- and for the table that events are put into
+pub rule_at : (h : Home) → IsHome h → (rule : Constraint) (db : Trees) → Keeps rule (schema_at h) db → AllByRecursion (λ r. passes rule (schema_at h) db (inbox2 (tree_at h)) r ≡ true) (db (tree_at h))
+rule_at (At l) has rule db keeps = at_layout l has keeps
+  where
+    at_layout : (l : Layout) → IsHome (At l) → Keeps rule (schema_in l) db → AllByRecursion (λ r. passes rule (schema_in l) db (inbox2 (inbox_tree l)) r ≡ true) (db (inbox_tree l))
+    at_layout Inbox2 has h = h.0
+    at_layout Inbox2Service has h = h.0
+    at_layout ServiceInbox2 has h = h.1.1.1.0
+    at_layout Upgraded has h = h.0
+    at_layout UpgradedService has h = h.0
+    at_layout ServiceUpgraded has h = h.1.1.1.0
+    at_layout ShiftedUpgraded has h = h.1.1.1.0
+    at_layout _ has h = absurd has
+rule_at (Beside Inbox) has rule db keeps = keeps.1.0
+rule_at (Beside InboxService) has rule db keeps = keeps.1.1.1.1.0
+rule_at (Beside ServiceInbox) has rule db keeps = keeps.1.1.1.1.0
+rule_at (Beside _) has rule db keeps = absurd has
+
 -- ---- what a schema tells of the table
 
 -- only one of version 2 has this name

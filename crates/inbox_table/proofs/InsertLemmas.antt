@@ -1,5 +1,5 @@
 -- What one INSERT does.
-use Rattle.std.proofs.Common.{◌≡◌, ◌⊎◌, inl, inr, ℕ, suc, pos, ℤ, length, List, [], ◌∷◌, ◌++◌, Bool, true, false, if◌then◌else◌, unwrap_or, nat_lt, not, ◌&&◌, Option, Some, None, Ok, Err, Result, refl, sym, ap, subst, ◌∙◌, arith, IsPermutation}
+use Rattle.std.proofs.Common.{◌≡◌, ◌⊎◌, inl, inr, ℕ, suc, pos, ℤ, length, List, [], ◌∷◌, ◌++◌, Bool, true, false, if◌then◌else◌, unwrap_or, nat_lt, not, ◌&&◌, Option, Some, None, Ok, Err, Result, IfOk, IsTrue, OnErr, OnOk, refl, sym, ap, subst, ◌∙◌, arith, length-append, IsPermutation}
 use Rattle.std.proofs.lemmas.List.Sorted.{IsPermutation-trans, IsPermutation-sym}
 use Rattle.sqlite_value.specs.declared.value.Value.TheVariants.{Int, Text as Words}
 use Rattle.sqlite_value.specs.Order.{Row}
@@ -9,27 +9,29 @@ use Rattle.sqlite_schema.specs.declared.schema.Keys.{Keys}
 use Rattle.sqlite_schema.specs.declared.schema.Table.{Table}
 use Rattle.sqlite_schema.specs.declared.command.Source.TheVariants.{Values}
 use Rattle.sqlite_schema.specs.declared.command.Conflict.TheVariants.{Abort}
-use Rattle.sqlite_schema.specs.declared.command.Command.TheVariants.{InsertOr}
+use Rattle.sqlite_schema.specs.declared.command.Command.TheVariants.{Insert, InsertOr}
 use Rattle.sqlite_rules.specs.declared.error.Rowids.TheVariants.{Chosen, Given}
 use Rattle.sqlite_rules.specs.Cast.{cast_row}
 use Rattle.sqlite_rules.specs.Edit.{edit_of, is_taken, taken_by, with_rowid}
 use Rattle.sqlite.specs.declared.error.Error.{Error}
 use Rattle.sqlite.specs.Effect.{Database, IsDatabase}
-use Rattle.sqlite.specs.Rows.{Written, Task, Then, nothing, joined, higher, count_of, Puts, Clears, Upserts, Tries, TriesEach}
+use Rattle.sqlite.specs.Rows.{Edited, Written, Task, Then, nothing, joined, higher, count_of, Puts, Clears, Upserts, Tries, TriesEach}
 use Rattle.sqlite.specs.Does.{Tally, Does, AtPlace, OnRows}
-use Rattle.sqlite.specs.State.{State, mode_of, KeepsCommit, Executes, ExecutesInside}
+use Rattle.sqlite.specs.State.{State, mode_of, IsRolledBack, IsUnchanged, KeepsCommit, Executes, ExecutesInside}
 use Rattle.sqlite.specs.Listing.{understood}
 use Rattle.sqlite.proofs.Callers.{statement_of, runs_as, one_step}
+use Rattle.sqlite.proofs.InsideLemmas.{keeps_then}
 use Rattle.attributes.specs.Event.{EventValue, id_of, source_of, text}
 use Rattle.inbox.specs.KeyOrder.{key_cmp}
 use Rattle.inbox.specs.Ordered.{append_new, has}
 use Rattle.database_layout.specs.Tables.{inbox2}
-use Rattle.inbox_table.specs.Rows.{IsNumbered, block_of_event, number_in, row_of, rows_from}
+use Rattle.inbox_table.specs.Rows.{IsEachOnce, IsNumbered, block_of_event, number_in, row_of, rows_from}
 use Rattle.inbox_table.specs.declared.version.Version.TheVariants.{Two}
-use Rattle.inbox_table.specs.steps.Turns.{Home, IsFilled, IsHome, KeepsOthers, Puts as PutsEvent, schema_at, tree_at}
+use Rattle.inbox_table.specs.steps.Turns.{Home, IsFilled, IsHome, KeepsOthers, Puts as PutsEvent, PutsNew, schema_at, tree_at}
 use Rattle.inbox_table.proofs.HomeLemmas.{listed, one_index, others_same, works_none}
-use Rattle.inbox_table.proofs.TextLemmas.{clauses, index_of, insert_text, insert_is, terms}
-use Rattle.inbox_table.proofs.EventLemmas.{numbered_more, once_more}
+use Rattle.inbox_table.proofs.TextLemmas.{clauses, index_of, insert_new_is, insert_new_text, insert_text, insert_is, terms}
+use Rattle.inbox_table.proofs.EventLemmas.{append_twice, numbered_more, once_more}
+use Rattle.inbox_table.proofs.OnceLemmas.{once_at}
 use Rattle.inbox_table.proofs.RowLemmas.{cast_stored, has_permuted, none_there, put_behind, put_new, some_there}
 
 -- a part that gave a value did not stop on the way
@@ -161,6 +163,56 @@ inserts old last h events e count numbered box x =
     kept true is has rows = rw is (record { home = box.home; schema = has; rows = rw is at rows; numbered = box.numbered; once = box.once })
     kept false is has rows = rw is (record { home = box.home; schema = has; rows = rw is at rows; numbered = numbered_more events e box.numbered numbered; once = once_more events e box.once is })
 
+-- what an INSERT of a new event leaves
+pub record InsertedNew (h : Home) (events : List EventValue) (e : EventValue) (old new : Database) : Type 0 where
+  pub table : IsFilled h new (append_new key_cmp events (e ∷ []))
+  pub new_is : has key_cmp events e ≡ false
+  pub others : KeepsOthers (schema_at h).tables (tree_at h) old.trees new.trees
+
+-- an event behind a list that still has each once wasn't in it
+not_there : (events : List EventValue) (e : EventValue) → IsEachOnce events → IsEachOnce (events ++ e ∷ []) → has key_cmp events e ≡ false
+not_there events e once both = go (has key_cmp events e) (sym (append_twice [] events (e ∷ []) ∙ ap (λ A. append_new key_cmp A (e ∷ [])) once) ∙ both)
+  where
+    go : (there : Bool) → (if there then events else events ++ e ∷ []) ≡ events ++ e ∷ [] → there ≡ false
+    go true is = absurd (omega (arith, ap length is, length-append events (e ∷ [])))
+    go false is = refl
+
+pub inserts_new : (old last : State) (h : Home) (events : List EventValue) (e : EventValue) (count : ℕ) → IsNumbered e → IsFilled h old.now events → Executes insert_new_text (params_of (suc (length events)) e) old last (Ok count) → InsertedNew h events e old.now last.now
+unfolding unary
+inserts_new old last h events e count numbered box x =
+    let params = params_of (suc (length events)) e in
+    let db = old.now.trees in
+    let keys = (mode_of old).keys in
+    let table = inbox2 (tree_at h) in
+    let now : Trees → List Row = λ t. t (tree_at h) in
+    let new = row_of Two (suc (length events)) e in
+    let command = Insert (index_of h) (Values terms 7) in
+    let is = insert_new_is h box.home in
+    let w = runs_as insert_new_text params old last (schema_at h) box.schema command is.0 is.1 count x in
+    let does = subst (λ s. Does old.step_limit (mode_of old) params (record old.now { schema = s }) (statement_of insert_new_text (understood (schema_at h) insert_new_text)) None command (Ok (w.tally, last.now))) box.schema w.changed in
+    let done = went (subst (λ o. AtPlace (λ (t : Table). OnRows (record { limit = old.step_limit; keys = keys; schema = schema_at h; table = t; params = params }) (mode_of old) None command db) o (Ok (w.tally, last.now))) (listed h box.home) does) in
+    let end = same_value (went (went done.2).2).2 in
+    let given = went done.1 in
+    let counter = went given.2 in
+    let edited = went counter.2 in
+    let counted = went edited.2 in
+    let edit = edit_of db table [] Chosen 0 (new ∷ []) in
+    let put = subst (λ rows. Edited (schema_at h) keys db (edit_of db table [] Chosen 0 rows) (Ok edited.0)) given.1.1 edited.1 in
+    let step = one_step (schema_at h) keys db edited.0 edit (works_none h box.home keys (taken_by db edit) edit.news) put in
+    let cast = cast_stored (tree_at h) (suc (length events)) e in
+    let row : now edited.0 ≡ put_row new (now db) = step.rows ∙ ap (λ r. put_row (with_rowid Chosen (now db) r) (now db)) cast in
+    let free : is_taken (now db) new ≡ false = not_true _ (subst (λ r. (not (is_taken (now db) (with_rowid Chosen (now db) r)) && true) ≡ true) cast step.fresh) in
+    let trees : last.now.trees ≡ edited.0 = ap (λ (p : Tally × Database). p.1.trees) end ∙ ap (λ (it : Written). it.trees) (same_value counted.2) ∙ same_value counted.1 in
+    let schema : last.now.schema ≡ schema_at h = ap (λ (p : Tally × Database). p.1.schema) end in
+    let rows : IsPermutation (rows_from Two 1 (events ++ e ∷ [])) (now last.now.trees) =
+    subst (IsPermutation (rows_from Two 1 (events ++ e ∷ []))) (sym (ap now trees ∙ row)) (IsPermutation-trans _ _ _ (put_behind events e (now db) box.rows) (put_new new (now db) free)) in
+    let none = not_there events e box.once (once_at h box.home last.now (events ++ e ∷ []) schema w.sound rows) in
+    record {
+      table = rw none (record { home = box.home; schema = schema; rows = rows; numbered = numbered_more events e box.numbered numbered; once = once_more events e box.once none });
+      new_is = none;
+      others = subst (KeepsOthers (schema_at h).tables (tree_at h) db) (sym trees) step.tables;
+    }
+
 above_none : (there : Bool) (count : ℕ) → count ≡ one_if there → nat_lt 0 count ≡ not there
 above_none true count h = rw h refl
 above_none false count h = rw h refl
@@ -170,6 +222,52 @@ sound_after : (old last : State) (count : ℕ) (h : Home) (events : List EventVa
 sound_after old last count h events params box x =
     let is = insert_is h box.home in
     (runs_as insert_text params old last (schema_at h) box.schema (InsertOr (index_of h) Abort (Values terms 7) clauses) is.0 is.1 count x).sound
+
+sound_after_new : (old last : State) (count : ℕ) (h : Home) (events : List EventValue) (params : Row) → IsFilled h old.now events → Executes insert_new_text params old last (Ok count) → IsDatabase last.now
+sound_after_new old last count h events params box x =
+    let is = insert_new_is h box.home in
+    (runs_as insert_new_text params old last (schema_at h) box.schema (Insert (index_of h) (Values terms 7)) is.0 is.1 count x).sound
+
+pub puts_new_inside : (old last : State) (place : ℕ) (e : EventValue) (count : ℕ) → IsNumbered e → ExecutesInside 0 insert_new_text (params_of place e) old last (Ok count) → PutsEvent place e old last true
+puts_new_inside old last place e count numbered x = record {
+  table = λ h events box next.
+      let it = inserts_new old last h events e count numbered box (subst (λ n. Executes insert_new_text (params_of n e) old last (Ok count)) next x.0) in
+      (it.table, sym (ap not it.new_is), it.others);
+  sound = λ h events box. sound_after_new old last count h events (params_of place e) box x.0;
+  was_open = x.1.was_open;
+  committed = x.1.committed_is;
+  mode = x.1.mode;
+}
+
+-- a statement that is refused within a transaction leaves it as it was, or over
+pub refused_inside : (sql : List ℕ) (params : Row) (old last : State) (error : Error) → ExecutesInside 0 sql params old last (Err error) → IsUnchanged old last ⊎ IsRolledBack old last
+refused_inside sql params old last error (inl (ran, left)) = left
+refused_inside sql params old last error (inr barred) = inl barred.2
+
+-- an event is put in behind a statement that left all as it was
+pub puts_then : (old mid last : State) (place : ℕ) (e : EventValue) (is_new : Bool) → IsUnchanged old mid → PutsEvent place e mid last is_new → PutsEvent place e old last is_new
+puts_then old mid last place e is_new same puts = record {
+  table = λ h events box next.
+      let it = puts.table h events (subst (λ (d : Database). IsFilled h d events) (sym same.0.now_is) box) next in
+      (it.0, it.1, subst (λ (d : Database). KeepsOthers (schema_at h).tables (tree_at h) d.trees last.now.trees) same.0.now_is it.2);
+  sound = λ h events box. puts.sound h events (subst (λ (d : Database). IsFilled h d events) (sym same.0.now_is) box);
+  was_open = same.0.was_open;
+  committed = puts.committed ∙ same.0.committed_is;
+  mode = puts.mode;
+}
+
+-- an event that was refused as new is put in as one that may be there; a transaction that is over takes nothing
+pub puts_again : (old mid last : State) (place : ℕ) (e : EventValue) (result : Result Bool Error) → PutsNew place e old mid false → IsTrue old.in_transaction → (IsTrue mid.in_transaction → IfOk result (PutsEvent place e mid last)) → (mid.in_transaction ≡ false → OnOk result ⊥)
+    → IfOk result (PutsEvent place e old last)
+puts_again old mid last place e (Ok is_new) (inl same) inside puts over = puts_then old mid last place e is_new same (puts (same.0.mode ∙ inside))
+puts_again old mid last place e (Ok is_new) (inr undone) inside puts over = absurd (over undone.autocommit)
+puts_again old mid last place e (Err error) left inside puts over = tt
+
+pub fails_again : (old mid last : State) (place : ℕ) (e : EventValue) (result : Result Bool Error) → PutsNew place e old mid false → IsTrue old.in_transaction → (IsTrue mid.in_transaction → OnErr result (KeepsCommit mid last)) → (mid.in_transaction ≡ false → last ≡ mid)
+    → OnErr result (KeepsCommit old last)
+fails_again old mid last place e (Ok is_new) left inside fails over = tt
+fails_again old mid last place e (Err error) (inl same) inside fails over = keeps_then old mid last (record { was_open = λ _. same.0.was_open; committed = λ _. same.0.committed_is }) (fails (same.0.mode ∙ inside))
+fails_again old mid last place e (Err error) (inr undone) inside fails over = subst (KeepsCommit old) (sym (over undone.autocommit)) (record { was_open = undone.was_open; committed = λ h. (undone.undone h).1 })
 
 pub puts_inside : (old last : State) (place : ℕ) (e : EventValue) (count : ℕ) (is_new : Bool) → is_new ≡ nat_lt 0 count → IsNumbered e → ExecutesInside 0 insert_text (params_of place e) old last (Ok count) → PutsEvent place e old last is_new
 puts_inside old last place e count is_new is numbered x = record {

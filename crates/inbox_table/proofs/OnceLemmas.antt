@@ -15,23 +15,24 @@ use Rattle.sqlite_schema.specs.declared.schema.Constraint.TheVariants.{Unique}
 use Rattle.sqlite_schema.specs.Rules.{agree, clashes, differ, passes}
 use Rattle.sqlite_rules.specs.Lists.{Has}
 use Rattle.sqlite_sql.specs.Ops.{binary, from_truth, is_true}
-use Rattle.sqlite.specs.Effect.{IsDatabase}
+use Rattle.sqlite.specs.Effect.{Database, IsDatabase}
 use Rattle.sqlite.specs.State.{State, Shown}
 use Rattle.attributes.specs.Event.{EventValue, id_of, source_of, text}
 use Rattle.inbox.specs.KeyOrder.{key_cmp}
 use Rattle.inbox.specs.Ordered.{append_new, has}
 use Rattle.database_layout.specs.Layout.{inbox_tree, schema_in}
-use Rattle.database_layout.specs.Tables.{key_places}
+use Rattle.database_layout.specs.Tables.{inbox2, key_places}
 use Rattle.database_layout.specs.declared.layout.Layout.{Layout}
 use Rattle.database_layout.specs.declared.layout.Layout.TheVariants.{Inbox, InboxService, ServiceInbox, Inbox2, Inbox2Service, ServiceInbox2, Upgraded, UpgradedService, ServiceUpgraded, ShiftedUpgraded}
-use Rattle.inbox_table.specs.Rows.{AreNumbered, IsListed, row_of, rows_from, shown_from}
+use Rattle.inbox_table.specs.Rows.{AreNumbered, IsEachOnce, IsListed, row_of, rows_from, shown_from}
 use Rattle.inbox_table.specs.Texts.{select_text}
 use Rattle.inbox_table.specs.Version.{HasTable, table_of}
 use Rattle.inbox_table.specs.declared.version.Version.{Version}
 use Rattle.inbox_table.specs.declared.version.Version.TheVariants.{One, Two}
 use Rattle.inbox_table.specs.steps.Reads.{HasVersion}
+use Rattle.inbox_table.specs.steps.Turns.{Home, At, Beside, IsHome, schema_at, tree_at}
 use Rattle.inbox_table.proofs.AdoptLemmas.{stored}
-use Rattle.inbox_table.proofs.HomeLemmas.{rule_of}
+use Rattle.inbox_table.proofs.HomeLemmas.{rule_at, rule_of}
 use Rattle.inbox_table.proofs.RowLemmas.{equal_text, has_permuted, key_columns, rows_snoc, same_tree}
 
 told : (b : Bool) → is_true (from_truth (Some b)) ≡ b
@@ -107,15 +108,40 @@ rule_told Two ShiftedUpgraded has db r h = h
 rule_told One _ has db r h = absurd has
 rule_told Two _ has db r h = absurd has
 
-module _ (v : Version) (l : Layout) (has_table : HasTable v l) (db : Trees) (unique : AllByRecursion (λ r. passes Unique (schema_in l) db (table_of v (inbox_tree l)) r ≡ true) (db (inbox_tree l))) where
-  abbrev rows : List Row
-  rows = db (inbox_tree l)
+-- a row with the key of a row of these is that row
+abbrev IsAlone : Version → List Row → Type 0
+IsAlone v rows = (q : ℕ) (e : EventValue) → Has rows (row_of v q e) → clashes (record { digits = 0 }) key_places rows (row_of v q e) ≡ false
 
+alone_in : (v : Version) (l : Layout) → HasTable v l → (db : Trees) → AllByRecursion (λ r. passes Unique (schema_in l) db (table_of v (inbox_tree l)) r ≡ true) (db (inbox_tree l)) → IsAlone v (db (inbox_tree l))
+alone_in v l has_table db unique q e there =
+    let rule = all_has (λ r. passes Unique (schema_in l) db (table_of v (inbox_tree l)) r ≡ true) (db (inbox_tree l)) (row_of v q e) unique there in
+    no_clash (eqb (inbox_tree l) (inbox_tree l)) _ (same_tree (inbox_tree l)) (rule_told v l has_table db (row_of v q e) rule)
+
+-- the rule of the UNIQUE, where events are put
+rule_told_at : (h : Home) → IsHome h → (db : Trees) (r : Row) → passes Unique (schema_at h) db (inbox2 (tree_at h)) r ≡ true
+    → (not ((true && eqb (tree_at h) (tree_at h)) && clashes (record { digits = 0 }) key_places (db (tree_at h)) r) && true) ≡ true
+rule_told_at (At Inbox2) has db r h = h
+rule_told_at (At Inbox2Service) has db r h = h
+rule_told_at (At ServiceInbox2) has db r h = h
+rule_told_at (At Upgraded) has db r h = h
+rule_told_at (At UpgradedService) has db r h = h
+rule_told_at (At ServiceUpgraded) has db r h = h
+rule_told_at (At ShiftedUpgraded) has db r h = h
+rule_told_at (Beside Inbox) has db r h = h
+rule_told_at (Beside InboxService) has db r h = h
+rule_told_at (Beside ServiceInbox) has db r h = h
+rule_told_at (At _) has db r h = absurd has
+rule_told_at (Beside _) has db r h = absurd has
+
+alone_at : (h : Home) → IsHome h → (db : Trees) → AllByRecursion (λ r. passes Unique (schema_at h) db (inbox2 (tree_at h)) r ≡ true) (db (tree_at h)) → IsAlone Two (db (tree_at h))
+alone_at h home db unique q e there =
+    let rule = all_has (λ r. passes Unique (schema_at h) db (inbox2 (tree_at h)) r ≡ true) (db (tree_at h)) (row_of Two q e) unique there in
+    no_clash (eqb (tree_at h) (tree_at h)) _ (same_tree (tree_at h)) (rule_told_at h home db (row_of Two q e) rule)
+
+module _ (v : Version) (rows : List Row) (alone : IsAlone v rows) where
   pair : (p q : ℕ) (x e : EventValue) → Has rows (row_of v p x) → Has rows (row_of v q e) → p < q → is_eq (key_cmp e x) ≡ false
   pair p q x e first second low =
-      let rule = all_has (λ r. passes Unique (schema_in l) db (table_of v (inbox_tree l)) r ≡ true) rows (row_of v q e) unique second in
-      let none : clashes (record { digits = 0 }) key_places rows (row_of v q e) ≡ false = no_clash (eqb (inbox_tree l) (inbox_tree l)) _ (same_tree (inbox_tree l)) (rule_told v l has_table db (row_of v q e) rule) in
-      let one = any_false (λ other. agree (record { digits = 0 }) key_places other key_places (row_of v q e) && differ (Rattle.sqlite_trees.specs.Tree.rowid other) (Int (pos q))) rows (row_of v p x) none first in
+      let one = any_false (λ other. agree (record { digits = 0 }) key_places other key_places (row_of v q e) && differ (Rattle.sqlite_trees.specs.Tree.rowid other) (Int (pos q))) rows (row_of v p x) (alone q e second) first in
       sym (agree_is v p q x e) ∙ left_of _ _ (differ_int (pos p) (pos q) ∙ not_equal (int_cmp (pos p) (pos q)) (apart p q low)) one
 
   none_before : (p q : ℕ) (A : List EventValue) (e : EventValue) → ((r : Row) → Has (rows_from v p A) r → Has rows r) → Has rows (row_of v q e) → p + length A ≤ q → has key_cmp A e ≡ false
@@ -142,6 +168,14 @@ module _ (v : Version) (l : Layout) (has_table : HasTable v l) (db : Trees) (uni
       either r (inl h) = all r h
       either r (inr is) = subst (Has rows) (sym is) (more (row_of v (1 + length A) e) (inl refl))
 
+-- ---- a table that an event was put into
+
+-- a list of events that stands in a database that keeps its rules has each of them once
+pub once_at : (h : Home) → IsHome h → (db : Database) (events : List EventValue) → db.schema ≡ schema_at h → IsDatabase db → IsPermutation (rows_from Two 1 events) (db.trees (tree_at h)) → IsEachOnce events
+once_at h home db events is sound perm =
+    let unique = rule_at h home Unique db.trees ((subst (λ s. Rattle.sqlite_schema.specs.Rules.Obeys s db.trees) is sound.obeys).rules Unique) in
+    once_from Two (db.trees (tree_at h)) (alone_at h home db.trees unique) [] events (λ r none. absurd none) (λ r have. has_permuted _ _ perm r have)
+
 -- ---- a table that is adopted
 
 pub adopted : (v : Version) (old last : State) (events : List EventValue) (rows : List Row) → HasVersion v old.now.schema → IsDatabase old.now → Shown (select_text v) [] old last rows → rows ≡ shown_from v 1 events → AreNumbered events
@@ -157,5 +191,5 @@ adopted v old last events found (l, has, is) sound shows read numbered =
       schema = is;
       rows = perm;
       numbered = numbered;
-      once = once_from v l has db unique [] events (λ r none. absurd none) (λ r have. has_permuted _ _ perm r have);
+      once = once_from v (db (inbox_tree l)) (alone_in v l has db unique) [] events (λ r none. absurd none) (λ r have. has_permuted _ _ perm r have);
     }

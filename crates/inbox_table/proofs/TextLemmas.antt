@@ -7,7 +7,7 @@ use Rattle.sqlite_sql.specs.Query.{Query, inner, end}
 use Rattle.sqlite_schema.specs.declared.command.Upsert.{Upsert}
 use Rattle.sqlite_schema.specs.declared.command.Source.TheVariants.{Values}
 use Rattle.sqlite_schema.specs.declared.command.Conflict.TheVariants.{Abort}
-use Rattle.sqlite_schema.specs.declared.command.Command.TheVariants.{InsertOr, Select}
+use Rattle.sqlite_schema.specs.declared.command.Command.TheVariants.{Insert, InsertOr, Select}
 use Rattle.sqlite_tied.specs.Compute.{everything}
 use Rattle.sqlite.specs.Listing.{understood, reads_listing}
 use Rattle.sqlite.proofs.Callers.{IsPlain, command_of}
@@ -18,7 +18,7 @@ use Rattle.inbox_table.specs.Version.{HasTable}
 use Rattle.inbox_table.specs.declared.version.Version.{Version}
 use Rattle.inbox_table.specs.declared.version.Version.TheVariants.{One, Two}
 use Rattle.inbox_table.specs.steps.Turns.{Home, At, Beside, IsHome, schema_at}
-pub use Rattle.inbox_table.specs.Texts.{insert_text, select_text}
+pub use Rattle.inbox_table.specs.Texts.{insert_new_text, insert_text, select_text}
 
 -- the values of a new row
 abbrev pub terms : List Term
@@ -56,6 +56,25 @@ insert_is (Beside InboxService) has = (refl, (refl, refl))
 insert_is (Beside ServiceInbox) has = (refl, (refl, refl))
 insert_is (At _) has = absurd has
 insert_is (Beside _) has = absurd has
+
+-- what INSERT of a new event means where the table is
+abbrev pub InsertsNew : Home → Type 0
+InsertsNew h = (command_of (understood (schema_at h) insert_new_text) ≡ Insert (index_of h) (Values terms 7)) × IsPlain (understood (schema_at h) insert_new_text)
+
+pub insert_new_is : (h : Home) → IsHome h → InsertsNew h
+unfolding understood everything
+insert_new_is (At Inbox2) has = (refl, (refl, refl))
+insert_new_is (At Inbox2Service) has = (refl, (refl, refl))
+insert_new_is (At ServiceInbox2) has = (refl, (refl, refl))
+insert_new_is (At Upgraded) has = (refl, (refl, refl))
+insert_new_is (At UpgradedService) has = (refl, (refl, refl))
+insert_new_is (At ServiceUpgraded) has = (refl, (refl, refl))
+insert_new_is (At ShiftedUpgraded) has = (refl, (refl, refl))
+insert_new_is (Beside Inbox) has = (refl, (refl, refl))
+insert_new_is (Beside InboxService) has = (refl, (refl, refl))
+insert_new_is (Beside ServiceInbox) has = (refl, (refl, refl))
+insert_new_is (At _) has = absurd has
+insert_new_is (Beside _) has = absurd has
 
 -- the columns that are shown, and their names
 abbrev pub projected : Version → List Term

@@ -7,8 +7,6 @@ use Rattle.sqlite.specs.Effect.{Database}
 use Rattle.attributes.specs.Event.{EventValue, id_of, source_of, text}
 use Rattle.attributes.specs.Fault.{IsEvent}
 use Rattle.attributes.specs.Sequence.{number_of}
-use Rattle.inbox.specs.KeyOrder.{key_cmp}
-use Rattle.inbox.specs.Ordered.{append_new}
 use Rattle.database_layout.specs.Layout.{inbox_tree, schema_in}
 use Rattle.database_layout.specs.declared.layout.Layout.{Layout}
 use Rattle.inbox_table.specs.Version.{HasTable}

@@ -1,13 +1,13 @@
 //! The statements on the table.
 
-ghost use Rattle.std.specs.Prelude.{◌≡◌, ◌<◌, ◌≤◌, ◌+◌, ◌^◌, ◌%◌, pos, [], ◌∷◌, length, IsTrue, IfOk, IfErr, OnOk, OnErr, if◌then◌else◌};
+ghost use Rattle.std.specs.Prelude.{◌≡◌, ◌<◌, ◌≤◌, ◌+◌, ◌^◌, ◌%◌, pos, false, [], ◌∷◌, length, IsTrue, IfOk, IfErr, OnOk, OnErr, if◌then◌else◌};
 ghost use Rattle.sqlite_value.specs.declared.value.Value.TheVariants.{Int, Text as Words};
 ghost use Rattle.sqlite.specs.Held.{state};
 ghost use Rattle.sqlite.specs.State.{HasCleanDisk, Survives, ExecutesInside};
 ghost use Rattle.inbox_table.specs.Calls.{IsTold, KeepEffect, MayTake, Stands};
 ghost use Rattle.inbox_table.specs.Fault.{IsOfStore};
-ghost use Rattle.inbox_table.specs.Texts.{insert_text};
-ghost use Rattle.inbox_table.specs.steps.Turns.{IsKeeping, Puts};
+ghost use Rattle.inbox_table.specs.Texts.{insert_new_text, insert_text};
+ghost use Rattle.inbox_table.specs.steps.Turns.{IsKeeping, Puts, PutsNew};
 ghost use Rattle.database_layout.specs.States.{KeepsCommitIfRefused};
 
 use crate::fault::TableFault;
@@ -15,7 +15,7 @@ use crate::listed::Listed;
 use crate::wanted::block_of;
 use crate::watch::Watch;
 use attributes::Sequenced;
-use sqlite::{Alter, Connection, Error, Transaction, params};
+use sqlite::{Alter, Connection, Error, ErrorCode, Transaction, params};
 
 /// The number as SQL has it in a row of the inbox's table.
 fn signed(number: u64) -> i64
@@ -41,6 +41,8 @@ fn insert<S: Alter>(
         → ExecutesInside 0 insert_text (Int place ∷ Words source.now ∷ Words id.now
         ∷ Int number ∷ Words body.now ∷ Int block ∷ [])
         (state S.Store tx.old.conn.now) (state S.Store tx.new.conn.now) result }
+    ensures ended { (state S.Store tx.old.conn.now).in_transaction ≡ false
+        → OnOk result ⊥ × (tx.new.conn.now ≡ tx.old.conn.now) }
     ensures survives { Survives
         (state S.Store tx.old.conn.now) (state S.Store tx.new.conn.now) (λ _. ⊥) }
 {
@@ -50,8 +52,72 @@ fn insert<S: Alter>(
     )
 }
 
+/// Runs the INSERT of an event that is new to the inbox's table, with these values.
+fn insert_new<S: Alter>(
+    tx: &mut Transaction<'_, S>,
+    place: i64,
+    source: &str,
+    id: &str,
+    number: i64,
+    body: &str,
+    block: i64,
+) -> Result<usize, Error>
+    ensures same_reference { tx.new.conn.ghost_name ≡ tx.old.conn.ghost_name }
+    ensures runs { HasCleanDisk (state S.Store tx.new.conn.now)
+        → IsTrue (state S.Store tx.old.conn.now).in_transaction
+        → ExecutesInside 0 insert_new_text (Int place ∷ Words source.now ∷ Words id.now
+        ∷ Int number ∷ Words body.now ∷ Int block ∷ [])
+        (state S.Store tx.old.conn.now) (state S.Store tx.new.conn.now) result }
+    ensures survives { Survives
+        (state S.Store tx.old.conn.now) (state S.Store tx.new.conn.now) (λ _. ⊥) }
+{
+    tx.execute(
+        "INSERT INTO inbox2 (place, source, id, number, body, block) VALUES (?1, ?2, ?3, ?4, ?5, ?6)",
+        params![place, source, id, number, body, block],
+    )
+}
+
+/// Puts the event into the inbox's table at the place behind the last, as one that isn't there;
+/// answers whether it is in. Where it isn't, it was there, and the transaction is as it was.
+fn put_new<S: Alter>(
+    tx: &mut Transaction<'_, S>,
+    place: u64,
+    event: &Sequenced,
+) -> Result<bool, Error>
+    requires { place < 2 ^ 63 }
+    ensures same_reference { tx.new.conn.ghost_name ≡ tx.old.conn.ghost_name }
+    ensures put { HasCleanDisk (state S.Store tx.new.conn.now)
+        → IsTrue (state S.Store tx.old.conn.now).in_transaction
+        → IfOk result (PutsNew place event.now
+        (state S.Store tx.old.conn.now) (state S.Store tx.new.conn.now)) }
+    ensures failed { KeepsCommitIfRefused (state S.Store tx.old.conn.now)
+        (state S.Store tx.new.conn.now) result }
+    ensures survives { Survives
+        (state S.Store tx.old.conn.now) (state S.Store tx.new.conn.now) (λ _. ⊥) }
+{
+    let number = event.number().number();
+    let event = event.event();
+    match insert_new(
+        tx,
+        signed(place),
+        event.source(),
+        event.id(),
+        signed(number),
+        event.text(),
+        signed(block_of(number)),
+    ) {
+        Ok(_) => Ok(true),
+        Err(Error::SqliteFailure(ErrorCode::ConstraintViolation(_))) => Ok(false),
+        Err(error) => Err(error),
+    }
+}
+
 /// Puts the event into the inbox's table at the place, unless there; answers whether it was not.
-fn put<S: Alter>(tx: &mut Transaction<'_, S>, place: u64, event: &Sequenced) -> Result<bool, Error>
+fn put_unless_there<S: Alter>(
+    tx: &mut Transaction<'_, S>,
+    place: u64,
+    event: &Sequenced,
+) -> Result<bool, Error>
     requires { place < 2 ^ 63 }
     ensures same_reference { tx.new.conn.ghost_name ≡ tx.old.conn.ghost_name }
     ensures put { HasCleanDisk (state S.Store tx.new.conn.now)
@@ -60,6 +126,10 @@ fn put<S: Alter>(tx: &mut Transaction<'_, S>, place: u64, event: &Sequenced) -> 
         (state S.Store tx.old.conn.now) (state S.Store tx.new.conn.now)) }
     ensures failed { KeepsCommitIfRefused (state S.Store tx.old.conn.now)
         (state S.Store tx.new.conn.now) result }
+
+    // A transaction that is over takes nothing.
+    ensures ended { (state S.Store tx.old.conn.now).in_transaction ≡ false
+        → OnOk result ⊥ × (tx.new.conn.now ≡ tx.old.conn.now) }
     ensures survives { Survives
         (state S.Store tx.old.conn.now) (state S.Store tx.new.conn.now) (λ _. ⊥) }
 {
@@ -75,6 +145,34 @@ fn put<S: Alter>(tx: &mut Transaction<'_, S>, place: u64, event: &Sequenced) -> 
         signed(block_of(number)),
     )?;
     Ok(count > 0)
+}
+
+/// Puts the event into the inbox's table at the place, unless there; answers whether it was not.
+/// By a guess that it is new, the quicker statement for such an event comes first.
+fn put<S: Alter>(
+    tx: &mut Transaction<'_, S>,
+    place: u64,
+    event: &Sequenced,
+    seems_new: bool,
+) -> Result<bool, Error>
+    requires { place < 2 ^ 63 }
+    ensures same_reference { tx.new.conn.ghost_name ≡ tx.old.conn.ghost_name }
+    ensures put { HasCleanDisk (state S.Store tx.new.conn.now)
+        → IsTrue (state S.Store tx.old.conn.now).in_transaction
+        → IfOk result (Puts place event.now
+        (state S.Store tx.old.conn.now) (state S.Store tx.new.conn.now)) }
+    ensures failed { KeepsCommitIfRefused (state S.Store tx.old.conn.now)
+        (state S.Store tx.new.conn.now) result }
+    ensures survives { Survives
+        (state S.Store tx.old.conn.now) (state S.Store tx.new.conn.now) (λ _. ⊥) }
+{
+    if !seems_new {
+        return put_unless_there(tx, place, event);
+    }
+    if put_new(tx, place, event)? {
+        return Ok(true);
+    }
+    put_unless_there(tx, place, event)
 }
 
 /// One more of the events new to the inbox's table, if this is new.
@@ -119,8 +217,11 @@ pub(crate) fn put_all<S: Alter, E: Listed, W: Watch>(
         (state S.Store tx.old.conn.now) (state S.Store tx.new.conn.now) (λ _. ⊥) }
 {
     let mut fresh = 0u64;
+    // What is new mostly comes behind what is new.
+    let mut seems_new = true;
     for i in 0..events.count() {
-        let is_new = put(tx, rows + fresh + 1, events.lent(i))?;
+        let is_new = put(tx, rows + fresh + 1, events.lent(i), seems_new)?;
+        seems_new = is_new;
         fresh = counted(fresh, is_new);
         tell(watch, i + 1, events.count());
     }

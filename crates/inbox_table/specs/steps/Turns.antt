@@ -1,11 +1,11 @@
 -- The turns of a transaction that takes events.
-use Rattle.std.specs.Prelude.{◌≡◌, ◌≢◌, ℕ, suc, ◌+◌, Bool, not, List, [], ◌∷◌, ◌++◌, length, IsPermutation, IsTrue}
+use Rattle.std.specs.Prelude.{◌≡◌, ◌≢◌, ◌⊎◌, ℕ, suc, ◌+◌, Bool, true, false, not, List, [], ◌∷◌, ◌++◌, length, IsPermutation, IsTrue}
 use Rattle.std.specs.List.{AllByRecursion}
 use Rattle.sqlite_schema.specs.declared.schema.Schema.{Schema}
 use Rattle.sqlite_schema.specs.declared.schema.Table.{Table}
 use Rattle.sqlite_trees.specs.Tree.{Trees}
 use Rattle.sqlite.specs.Effect.{Database, IsDatabase}
-use Rattle.sqlite.specs.State.{State}
+use Rattle.sqlite.specs.State.{State, IsRolledBack, IsUnchanged}
 use Rattle.attributes.specs.Event.{EventValue}
 use Rattle.database_layout.specs.Layout.{HasInbox, HasInbox2, inbox_tree, schema_in}
 use Rattle.database_layout.specs.Making.{both_in, upgraded}
@@ -60,6 +60,12 @@ pub record Puts (place : ℕ) (e : EventValue) (old new : State) (is_new : Bool)
   pub was_open : IsTrue old.is_open
   pub committed : new.committed ≡ old.committed
   pub mode : IsTrue new.in_transaction
+
+-- within a transaction the event is put into the inbox at the place behind the last, as one that
+-- isn't there: it is in, or the table refuses it, and the transaction is as it was or over
+abbrev pub PutsNew : ℕ → EventValue → State → State → Bool → Type 0
+PutsNew place e old new true = Puts place e old new true
+PutsNew place e old new false = IsUnchanged old new ⊎ IsRolledBack old new
 
 -- the inbox once events of `all` were put in behind so many rows, and these are left
 pub record IsTaking (h : Home) (rows : ℕ) (all left events : List EventValue) (old now : Database)

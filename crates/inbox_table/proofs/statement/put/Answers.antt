@@ -1,32 +1,27 @@
-use Rattle.std.proofs.Common.{◌≡◌, ◌/◌, pos, w64, FitsSigned, rules, refl, sym, ap, subst, ◌∙◌, Some, IsSome, unwrap_or, [], ◌∷◌, Ok}
-use Rattle.std.proofs.lemmas.Int.{to_z-of_z}
-use Rattle.sqlite_value.specs.declared.value.Value.TheVariants.{Int, Text as Words}
-use Rattle.sqlite.specs.State.{KeepsCommit, ExecutesInside}
+use Rattle.std.proofs.Common.{arith, ap, false}
 use Rattle.sqlite.specs.Held.{state}
-use Rattle.attributes.specs.Event.{id_of, source_of, text}
-use Rattle.attributes.specs.Fault.{IsEvent}
-use Rattle.attributes.specs.Sequence.{number_of}
-use Rattle.inbox_table.specs.Rows.{IsNumbered, number_in}
-use Rattle.inbox_table.specs.Texts.{insert_text}
-use Rattle.inbox_table.proofs.InsertLemmas.{puts_inside, fails_inside}
+use Rattle.sqlite.specs.State.{HasCleanDisk}
+use Rattle.inbox_table.specs.steps.Turns.{PutsNew}
+use Rattle.inbox_table.proofs.InsertLemmas.{fails_again, puts_again}
 use Rattle.inbox_table.proofs.statement.put.Goals as goal
+
+pub returns-then-branch-clause-put : goal.returns-then-branch-clause-put
+returns-then-branch-clause-put g c clean inside = rw c.if-branch.true at (c.in_ok-put_new.ensures.put clean inside)
 
 pub returns-clause-put : goal.returns-clause-put
 returns-clause-put g c clean inside =
-    let e = c.args.event.now in
     let old = state g.S.Store c.args.tx.now.conn.now in
-    let last = state g.S.Store c.insert.new.tx.conn.now in
-    let sequence : number_of e ≡ Some c.number.result = c.number.ensures in
-    let number : c.number-number.result ≡ number_in e = c.number-number.ensures.value ∙ sym (ap (λ o. unwrap_or o 0) sequence) in
-    let numbered : IsNumbered e = record { event = subst IsEvent c.event-event.ensures c.text.ensures.event; number = subst IsSome (sym sequence) refl } in
-    let fits_place : FitsSigned w64 c.signed.result = search rules in
-    let fits : FitsSigned w64 c.signed-2.result = search rules in
-    let fits_block : FitsSigned w64 c.signed-3.result = search rules in
-    let ran = rw (c.in_ok-count.was, to_z-of_z w64 c.signed.result fits_place, to_z-of_z w64 c.signed-2.result fits, to_z-of_z w64 c.signed-3.result fits_block, c.signed.ensures, c.signed-2.ensures, c.signed-3.ensures, c.block_of.ensures, c.source.ensures.value, c.id.ensures.value, c.text.ensures.text, c.event-event.ensures) at (c.insert.ensures.runs clean inside) in
-    let told = subst (λ n. ExecutesInside 0 insert_text (Int (pos c.args.place) ∷ Words (source_of e) ∷ Words (id_of e) ∷ Int (pos n) ∷ Words (text e) ∷ Int (pos (n / 1024)) ∷ []) old last (Ok c.in_ok-count.count)) number ran in
-    puts_inside old last c.args.place e c.in_ok-count.count _ refl numbered told
+    let mid = state g.S.Store c.put_new.new.tx.conn.now in
+    let last = state g.S.Store c.put_unless_there-2.new.tx.conn.now in
+    let clean1 : HasCleanDisk mid = omega (arith, c.put_unless_there-2.ensures.survives.clean, clean) in
+    let left : PutsNew c.args.place c.args.event.now old mid false = rw c.if-branch.false at (c.in_ok-put_new.ensures.put clean1 inside) in
+    puts_again old mid last c.args.place c.args.event.now c.put_unless_there-2.result left inside (c.put_unless_there-2.ensures.put clean) (λ over. (c.put_unless_there-2.ensures.ended over).0)
 
-pub returns-in_err-count-clause-failed : goal.returns-in_err-count-clause-failed
-returns-in_err-count-clause-failed g c clean inside =
-    let fails : KeepsCommit (state g.S.Store c.args.tx.now.conn.now) (state g.S.Store c.insert.new.tx.conn.now) = fails_inside _ _ _ _ _ (rw c.in_err-count.was at (c.insert.ensures.runs clean inside)) in
-    search rules
+pub returns-clause-failed : goal.returns-clause-failed
+returns-clause-failed g c clean inside =
+    let old = state g.S.Store c.args.tx.now.conn.now in
+    let mid = state g.S.Store c.put_new.new.tx.conn.now in
+    let last = state g.S.Store c.put_unless_there-2.new.tx.conn.now in
+    let clean1 : HasCleanDisk mid = omega (arith, c.put_unless_there-2.ensures.survives.clean, clean) in
+    let left : PutsNew c.args.place c.args.event.now old mid false = rw c.if-branch.false at (c.in_ok-put_new.ensures.put clean1 inside) in
+    fails_again old mid last c.args.place c.args.event.now c.put_unless_there-2.result left inside (c.put_unless_there-2.ensures.failed clean) (λ over. ap (state g.S.Store) (c.put_unless_there-2.ensures.ended over).1)
