@@ -60,6 +60,29 @@ at_next rows all left e old mid now fresh place is_new at so_far puts = record {
   mode = puts.mode;
 }
 
+append_both : (A L M : List EventValue) → append_new key_cmp (append_new key_cmp A L) M ≡ append_new key_cmp A (L ++ M)
+append_both A [] M = refl
+append_both A (e ∷ L) M = append_both (if has key_cmp A e then A else A ++ e ∷ []) L M
+
+-- events were put in, and then those of a list behind them
+pub keeps_more : (rows : ℕ) (all left L : List EventValue) (old mid now : State) (fresh more : ℕ) → IsKeeping rows all (L ++ left) old mid fresh → IsKeeping (rows + fresh) L [] mid now more → IsKeeping rows all left old now (fresh + more)
+keeps_more rows all left L old mid now fresh more so_far took = record {
+  table = λ h events box count.
+      let was = so_far.table h events box count in
+      let one = took.table h was.held was.table (sym was.count) in
+      record {
+        held = one.held;
+        table = one.table;
+        rest = ap (λ A. append_new key_cmp A left) one.rest ∙ append_both was.held L left ∙ was.rest;
+        count = (let sum : length one.held ≡ rows + (fresh + more) = omega (arith, one.count) in sum);
+        sound = λ sound. one.sound (was.sound sound);
+        others = others_then (schema_at h).tables (tree_at h) old.now.trees mid.now.trees now.now.trees was.others one.others;
+      };
+  was_open = λ h. so_far.was_open (took.was_open h);
+  committed = took.committed ∙ so_far.committed;
+  mode = took.mode;
+}
+
 left_from : (L : List EventValue) (i : ℕ) (e : EventValue) → slice_get L i ≡ Some e → drop i L ≡ e ∷ drop (suc i) L
 left_from [] i e is = absurd (cc)
 left_from (x ∷ L) zero e is = (let same : x ≡ e = cc in ap (λ y. y ∷ L) same)
@@ -77,17 +100,17 @@ kept_commit k = record { was_open = k.was_open; committed = λ _. k.committed }
 thousand : (n : ℕ) → (n * 1000) % 1000 ≡ 0
 thousand n = omega arith
 
-pub told_next : (told : ℕ → ℕ → Type 0) (i all : ℕ) → ((n : ℕ) → 1 ≤ n → n * 1000 ≤ i → told (n * 1000) all) → ((i + 1) % 1000 ≡ 0 → told (i + 1) all) → (n : ℕ) → 1 ≤ n → n * 1000 ≤ i + 1 → told (n * 1000) all
-told_next told i all before now n one low = go (decide_last (n * 1000) i low)
+pub told_next : (told : ℕ → ℕ → Type 0) (group from to all : ℕ) → from ≡ group * 8 → to ≤ from + 8 → ((n : ℕ) → 1 ≤ n → n * 1000 ≤ from → told (n * 1000) all) → (to % 1000 ≡ 0 → told to all) → (n : ℕ) → 1 ≤ n → n * 1000 ≤ to → told (n * 1000) all
+told_next told group from to all is high before now n one low = go (decide (n * 1000) from)
   where
-    decide_last : (m i : ℕ) → m ≤ i + 1 → (m ≤ i) ⊎ (m ≡ i + 1)
-    decide_last zero i h = inl (omega arith)
-    decide_last (suc m) zero h = inr (omega (arith, h))
-    decide_last (suc m) (suc i) h = elim (decide_last m i (omega (arith, h))) [ inl k ↦ inl (omega (arith, k)) | inr e ↦ inr (omega (arith, e)) ]
+    decide : (m i : ℕ) → (m ≤ i) ⊎ (suc i ≤ m)
+    decide zero i = inl (omega arith)
+    decide (suc m) zero = inr (omega arith)
+    decide (suc m) (suc i) = elim (decide m i) [ inl k ↦ inl (omega (arith, k)) | inr k ↦ inr (omega (arith, k)) ]
 
-    go : (n * 1000 ≤ i) ⊎ (n * 1000 ≡ i + 1) → told (n * 1000) all
+    go : (n * 1000 ≤ from) ⊎ (suc from ≤ n * 1000) → told (n * 1000) all
     go (inl k) = before n one k
-    go (inr e) = subst (λ m. told m all) (sym e) (now (ap (λ m. m % 1000) (sym e) ∙ thousand n))
+    go (inr k) = let e : n * 1000 ≡ to = omega (arith, k, low, high, is) in subst (λ m. told m all) (sym e) (now (ap (λ m. m % 1000) (sym e) ∙ thousand n))
 
 -- ---- once nothing is left
 

@@ -18,7 +18,7 @@ use Rattle.inbox_table.specs.Version.{HasTable}
 use Rattle.inbox_table.specs.declared.version.Version.{Version}
 use Rattle.inbox_table.specs.declared.version.Version.TheVariants.{One, Two}
 use Rattle.inbox_table.specs.steps.Turns.{Home, At, Beside, IsHome, schema_at}
-pub use Rattle.inbox_table.specs.Texts.{insert_new_text, insert_text, select_text}
+pub use Rattle.inbox_table.specs.Texts.{insert_group_text, insert_new_text, insert_text, select_text}
 
 -- the values of a new row
 abbrev pub terms : List Term
@@ -75,6 +75,29 @@ insert_new_is (Beside InboxService) has = (refl, (refl, refl))
 insert_new_is (Beside ServiceInbox) has = (refl, (refl, refl))
 insert_new_is (At _) has = absurd has
 insert_new_is (Beside _) has = absurd has
+
+-- the values of eight new rows
+abbrev pub group_terms : List Term
+group_terms = col 0 0 ∷ lit Null ∷ col 0 1 ∷ col 0 2 ∷ col 0 3 ∷ col 0 4 ∷ col 0 5 ∷ col 0 6 ∷ lit Null ∷ col 0 7 ∷ col 0 8 ∷ col 0 9 ∷ col 0 10 ∷ col 0 11 ∷ col 0 12 ∷ lit Null ∷ col 0 13 ∷ col 0 14 ∷ col 0 15 ∷ col 0 16 ∷ col 0 17 ∷ col 0 18 ∷ lit Null ∷ col 0 19 ∷ col 0 20 ∷ col 0 21 ∷ col 0 22 ∷ col 0 23 ∷ col 0 24 ∷ lit Null ∷ col 0 25 ∷ col 0 26 ∷ col 0 27 ∷ col 0 28 ∷ col 0 29 ∷ col 0 30 ∷ lit Null ∷ col 0 31 ∷ col 0 32 ∷ col 0 33 ∷ col 0 34 ∷ col 0 35 ∷ col 0 36 ∷ lit Null ∷ col 0 37 ∷ col 0 38 ∷ col 0 39 ∷ col 0 40 ∷ col 0 41 ∷ col 0 42 ∷ lit Null ∷ col 0 43 ∷ col 0 44 ∷ col 0 45 ∷ col 0 46 ∷ col 0 47 ∷ []
+
+-- what INSERT of eight new events means where the table is
+abbrev pub InsertsGroup : Home → Type 0
+InsertsGroup h = (command_of (understood (schema_at h) insert_group_text) ≡ Insert (index_of h) (Values group_terms 7)) × IsPlain (understood (schema_at h) insert_group_text)
+
+pub insert_group_is : (h : Home) → IsHome h → InsertsGroup h
+unfolding understood everything
+insert_group_is (At Inbox2) has = (refl, (refl, refl))
+insert_group_is (At Inbox2Service) has = (refl, (refl, refl))
+insert_group_is (At ServiceInbox2) has = (refl, (refl, refl))
+insert_group_is (At Upgraded) has = (refl, (refl, refl))
+insert_group_is (At UpgradedService) has = (refl, (refl, refl))
+insert_group_is (At ServiceUpgraded) has = (refl, (refl, refl))
+insert_group_is (At ShiftedUpgraded) has = (refl, (refl, refl))
+insert_group_is (Beside Inbox) has = (refl, (refl, refl))
+insert_group_is (Beside InboxService) has = (refl, (refl, refl))
+insert_group_is (Beside ServiceInbox) has = (refl, (refl, refl))
+insert_group_is (At _) has = absurd has
+insert_group_is (Beside _) has = absurd has
 
 -- the columns that are shown, and their names
 abbrev pub projected : Version → List Term

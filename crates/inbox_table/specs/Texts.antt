@@ -11,6 +11,10 @@ insert_text = codes "INSERT INTO inbox2 (place, source, id, number, body, block)
 abbrev pub insert_new_text : List ℕ
 insert_new_text = codes "INSERT INTO inbox2 (place, source, id, number, body, block) VALUES (?1, ?2, ?3, ?4, ?5, ?6)"
 
+-- INSERT: puts eight events into the inbox's table, and is refused if one is there
+abbrev pub insert_group_text : List ℕ
+insert_group_text = codes "INSERT INTO inbox2 (place, source, id, number, body, block) VALUES (?1, ?2, ?3, ?4, ?5, ?6), (?7, ?8, ?9, ?10, ?11, ?12), (?13, ?14, ?15, ?16, ?17, ?18), (?19, ?20, ?21, ?22, ?23, ?24), (?25, ?26, ?27, ?28, ?29, ?30), (?31, ?32, ?33, ?34, ?35, ?36), (?37, ?38, ?39, ?40, ?41, ?42), (?43, ?44, ?45, ?46, ?47, ?48)"
+
 -- SELECT: shows the rows of the inbox's table by place
 abbrev pub select_text : Version → List ℕ
 select_text One = codes "SELECT place, source, id, number, body FROM inbox ORDER BY place"

@@ -60,7 +60,7 @@ fn put_lists<S: Alter>(
     let mut each = List::empty(alloc);
     let mut all = 0u64;
     for i in 0..lists.len() {
-        let fresh = put_all(tx, rows + all, lists.at(i), &Unwatched)?;
+        let fresh = put_all(alloc, tx, rows + all, lists.at(i), &Unwatched)?;
         all += fresh;
         each.push(fresh)?;
     }

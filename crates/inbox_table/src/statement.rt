@@ -1,13 +1,15 @@
 //! The statements on the table.
 
-ghost use Rattle.std.specs.Prelude.{◌≡◌, ◌<◌, ◌≤◌, ◌+◌, ◌^◌, ◌%◌, pos, false, [], ◌∷◌, length, IsTrue, IfOk, IfErr, OnOk, OnErr, if◌then◌else◌};
+ghost use Rattle.std.specs.Prelude.{◌≡◌, ◌<◌, ◌≤◌, ◌+◌, ◌^◌, ◌%◌, ◌-◌, ◌++◌, pos, [], ◌∷◌, length, take, drop, IsTrue, IfOk, IfErr, OnOk, OnErr, if◌then◌else◌};
 ghost use Rattle.sqlite_value.specs.declared.value.Value.TheVariants.{Int, Text as Words};
 ghost use Rattle.sqlite.specs.Held.{state};
+ghost use Rattle.sqlite.specs.Values.{bound};
+ghost use Rattle.inbox_table.specs.Rows.{AreNumbered, IsNumbered};
 ghost use Rattle.sqlite.specs.State.{HasCleanDisk, Survives, ExecutesInside};
 ghost use Rattle.inbox_table.specs.Calls.{IsTold, KeepEffect, MayTake, Stands};
 ghost use Rattle.inbox_table.specs.Fault.{IsOfStore};
-ghost use Rattle.inbox_table.specs.Texts.{insert_new_text, insert_text};
-ghost use Rattle.inbox_table.specs.steps.Turns.{IsKeeping, Puts, PutsNew};
+ghost use Rattle.inbox_table.specs.Texts.{insert_group_text, insert_new_text, insert_text};
+ghost use Rattle.inbox_table.specs.steps.Turns.{IsKeeping, Puts, PutsGroup, PutsNew, params_from, params_of};
 ghost use Rattle.database_layout.specs.States.{KeepsCommitIfRefused};
 
 use crate::fault::TableFault;
@@ -16,6 +18,8 @@ use crate::wanted::block_of;
 use crate::watch::Watch;
 use attributes::Sequenced;
 use sqlite::{Alter, Connection, Error, ErrorCode, Transaction, params};
+use sqlite_value::value::ValueRef;
+use std::alloc::Global;
 
 /// The number as SQL has it in a row of the inbox's table.
 fn signed(number: u64) -> i64
@@ -41,8 +45,6 @@ fn insert<S: Alter>(
         → ExecutesInside 0 insert_text (Int place ∷ Words source.now ∷ Words id.now
         ∷ Int number ∷ Words body.now ∷ Int block ∷ [])
         (state S.Store tx.old.conn.now) (state S.Store tx.new.conn.now) result }
-    ensures ended { (state S.Store tx.old.conn.now).in_transaction ≡ false
-        → OnOk result ⊥ × (tx.new.conn.now ≡ tx.old.conn.now) }
     ensures survives { Survives
         (state S.Store tx.old.conn.now) (state S.Store tx.new.conn.now) (λ _. ⊥) }
 {
@@ -126,10 +128,6 @@ fn put_unless_there<S: Alter>(
         (state S.Store tx.old.conn.now) (state S.Store tx.new.conn.now)) }
     ensures failed { KeepsCommitIfRefused (state S.Store tx.old.conn.now)
         (state S.Store tx.new.conn.now) result }
-
-    // A transaction that is over takes nothing.
-    ensures ended { (state S.Store tx.old.conn.now).in_transaction ≡ false
-        → OnOk result ⊥ × (tx.new.conn.now ≡ tx.old.conn.now) }
     ensures survives { Survives
         (state S.Store tx.old.conn.now) (state S.Store tx.new.conn.now) (λ _. ⊥) }
 {
@@ -175,12 +173,180 @@ fn put<S: Alter>(
     put_unless_there(tx, place, event)
 }
 
+/// How many events one INSERT puts in.
+const GROUP: u64 = 8;
+
+/// Adds the values by which an event is put into the inbox's table at a place.
+fn push_values<'a>(
+    values: &mut Vec<ValueRef<'a>>,
+    place: u64,
+    event: &'a Sequenced,
+) -> Result<(), Error>
+    requires { place < 2 ^ 63 }
+    ensures values { OnOk result (bound values.new.items ≡ bound values.old.items ++ params_of place event.now) }
+    ensures numbered { IsNumbered event.now }
+{
+    let number = event.number().number();
+    let event = event.event();
+    values.extend_from_slice(&[
+        ValueRef::Int(signed(place)),
+        ValueRef::Text(event.source().as_bytes()),
+        ValueRef::Text(event.id().as_bytes()),
+        ValueRef::Int(signed(number)),
+        ValueRef::Text(event.text().as_bytes()),
+        ValueRef::Int(signed(block_of(number))),
+    ])?;
+    Ok(())
+}
+
+/// The values by which eight of the events, from this one on, are put into the inbox's table at the
+/// places from this one on.
+fn values_of<'a, E: Listed>(
+    alloc: Global,
+    place: u64,
+    events: &'a E,
+    from: u64,
+) -> Result<Vec<ValueRef<'a>>, Error>
+    requires within { from + 8 ≤ length (E.listed events.now) }
+    requires small { from + 8 < 2 ^ 64 }
+    requires short { place + 8 ≤ 2 ^ 63 }
+    ensures values { IfOk result (λ v. bound v.items
+        ≡ params_from place (take 8 (drop from (E.listed events.now)))) }
+    ensures numbered { OnOk result (AreNumbered (take 8 (drop from (E.listed events.now)))) }
+{
+    let mut values = Vec::new(alloc);
+    for i in 0..GROUP {
+        push_values(&mut values, place + i, events.lent(from + i))?;
+    }
+    Ok(values)
+}
+
+/// Runs the INSERT of eight events that are new to the inbox's table, with their values.
+fn insert_group<S: Alter>(
+    tx: &mut Transaction<'_, S>,
+    values: &[ValueRef<'_>],
+) -> Result<usize, Error>
+    ensures same_reference { tx.new.conn.ghost_name ≡ tx.old.conn.ghost_name }
+    ensures runs { HasCleanDisk (state S.Store tx.new.conn.now)
+        → IsTrue (state S.Store tx.old.conn.now).in_transaction
+        → ExecutesInside 0 insert_group_text (bound values.now)
+        (state S.Store tx.old.conn.now) (state S.Store tx.new.conn.now) result }
+    ensures survives { Survives
+        (state S.Store tx.old.conn.now) (state S.Store tx.new.conn.now) (λ _. ⊥) }
+{
+    tx.execute(
+        "INSERT INTO inbox2 (place, source, id, number, body, block) VALUES (?1, ?2, ?3, ?4, ?5, ?6), (?7, ?8, ?9, ?10, ?11, ?12), (?13, ?14, ?15, ?16, ?17, ?18), (?19, ?20, ?21, ?22, ?23, ?24), (?25, ?26, ?27, ?28, ?29, ?30), (?31, ?32, ?33, ?34, ?35, ?36), (?37, ?38, ?39, ?40, ?41, ?42), (?43, ?44, ?45, ?46, ?47, ?48)",
+        values,
+    )
+}
+
+/// Puts eight of the events, from this one on, into the inbox's table behind so many rows, as such
+/// that aren't there; answers whether they are in. Where they aren't, one of them was there or came
+/// twice, and the transaction is as it was.
+fn put_group<S: Alter, E: Listed>(
+    alloc: Global,
+    tx: &mut Transaction<'_, S>,
+    rows: u64,
+    events: &E,
+    from: u64,
+) -> Result<bool, Error>
+    requires within { from + 8 ≤ length (E.listed events.now) }
+    requires small { from + 8 < 2 ^ 64 }
+    requires short { rows + 8 < 2 ^ 63 }
+    ensures same_reference { tx.new.conn.ghost_name ≡ tx.old.conn.ghost_name }
+    ensures put { HasCleanDisk (state S.Store tx.new.conn.now)
+        → IsTrue (state S.Store tx.old.conn.now).in_transaction
+        → IfOk result (PutsGroup rows (take 8 (drop from (E.listed events.now)))
+        (state S.Store tx.old.conn.now) (state S.Store tx.new.conn.now)) }
+    ensures failed { KeepsCommitIfRefused (state S.Store tx.old.conn.now)
+        (state S.Store tx.new.conn.now) result }
+    ensures survives { Survives
+        (state S.Store tx.old.conn.now) (state S.Store tx.new.conn.now) (λ _. ⊥) }
+{
+    let values = values_of(alloc, rows + 1, events, from)?;
+    match insert_group(tx, values.as_slice()) {
+        Ok(_) => Ok(true),
+        Err(Error::SqliteFailure(ErrorCode::ConstraintViolation(_))) => Ok(false),
+        Err(error) => Err(error),
+    }
+}
+
 /// One more of the events new to the inbox's table, if this is new.
 fn counted(fresh: u64, is_new: bool) -> u64
     requires { fresh < u64.MAX }
     ensures { result ≡ fresh + (if is_new then 1 else 0) }
 {
     if is_new { fresh + 1 } else { fresh }
+}
+
+/// Puts these events, from one to before another, into the inbox's table behind so many rows, each
+/// unless it is there; answers how many were not there.
+fn put_each<S: Alter, E: Listed>(
+    tx: &mut Transaction<'_, S>,
+    rows: u64,
+    events: &E,
+    from: u64,
+    to: u64,
+    seems_new: bool,
+) -> Result<u64, Error>
+    requires order { from ≤ to }
+    requires within { to ≤ length (E.listed events.now) }
+    requires short { rows + (to - from) < 2 ^ 63 }
+    ensures same_reference { tx.new.conn.ghost_name ≡ tx.old.conn.ghost_name }
+    ensures keeping { HasCleanDisk (state S.Store tx.new.conn.now)
+        → IsTrue (state S.Store tx.old.conn.now).in_transaction
+        → IfOk result (IsKeeping rows (take (to - from) (drop from (E.listed events.now))) []
+        (state S.Store tx.old.conn.now) (state S.Store tx.new.conn.now)) }
+    ensures few { IfOk result (λ fresh. fresh ≤ to - from) }
+    ensures failed { KeepsCommitIfRefused (state S.Store tx.old.conn.now)
+        (state S.Store tx.new.conn.now) result }
+    ensures survives { Survives
+        (state S.Store tx.old.conn.now) (state S.Store tx.new.conn.now) (λ _. ⊥) }
+{
+    let mut fresh = 0u64;
+    let mut seems_new = seems_new;
+    for i in from..to {
+        let is_new = put(tx, rows + fresh + 1, events.lent(i), seems_new)?;
+        seems_new = is_new;
+        fresh = counted(fresh, is_new);
+    }
+    Ok(fresh)
+}
+
+/// As [`put_each`], of at most eight events, which are put in by one INSERT where they seem new.
+fn put_some<S: Alter, E: Listed>(
+    alloc: Global,
+    tx: &mut Transaction<'_, S>,
+    rows: u64,
+    events: &E,
+    from: u64,
+    to: u64,
+    seem_new: bool,
+) -> Result<u64, Error>
+    requires order { from ≤ to }
+    requires within { to ≤ length (E.listed events.now) }
+    requires short { rows + (to - from) < 2 ^ 63 }
+    ensures same_reference { tx.new.conn.ghost_name ≡ tx.old.conn.ghost_name }
+    ensures keeping { HasCleanDisk (state S.Store tx.new.conn.now)
+        → IsTrue (state S.Store tx.old.conn.now).in_transaction
+        → IfOk result (IsKeeping rows (take (to - from) (drop from (E.listed events.now))) []
+        (state S.Store tx.old.conn.now) (state S.Store tx.new.conn.now)) }
+    ensures few { IfOk result (λ fresh. fresh ≤ to - from) }
+    ensures failed { KeepsCommitIfRefused (state S.Store tx.old.conn.now)
+        (state S.Store tx.new.conn.now) result }
+    ensures survives { Survives
+        (state S.Store tx.old.conn.now) (state S.Store tx.new.conn.now) (λ _. ⊥) }
+{
+    if !seem_new {
+        return put_each(tx, rows, events, from, to, false);
+    }
+    if to - from != GROUP {
+        return put_each(tx, rows, events, from, to, true);
+    }
+    if put_group(alloc, tx, rows, events, from)? {
+        return Ok(GROUP);
+    }
+    put_each(tx, rows, events, from, to, false)
 }
 
 /// After how many events it is told how far a call came.
@@ -198,6 +364,7 @@ fn tell<W: Watch>(watch: &W, count: u64, all: u64)
 /// Puts these events into the inbox's table behind so many rows, each unless it is there; answers
 /// how many were not there. The watch is told after each thousand how many are in.
 pub(crate) fn put_all<S: Alter, E: Listed, W: Watch>(
+    alloc: Global,
     tx: &mut Transaction<'_, S>,
     rows: u64,
     events: &E,
@@ -216,14 +383,17 @@ pub(crate) fn put_all<S: Alter, E: Listed, W: Watch>(
     ensures survives { Survives
         (state S.Store tx.old.conn.now) (state S.Store tx.new.conn.now) (λ _. ⊥) }
 {
+    let count = events.count();
     let mut fresh = 0u64;
     // What is new mostly comes behind what is new.
-    let mut seems_new = true;
-    for i in 0..events.count() {
-        let is_new = put(tx, rows + fresh + 1, events.lent(i), seems_new)?;
-        seems_new = is_new;
-        fresh = counted(fresh, is_new);
-        tell(watch, i + 1, events.count());
+    let mut seem_new = true;
+    for group in 0..count.div_ceil(GROUP) {
+        let from = group * GROUP;
+        let to = count.min(from + GROUP);
+        let new = put_some(alloc, tx, rows + fresh, events, from, to, seem_new)?;
+        seem_new = new == to - from;
+        fresh += new;
+        tell(watch, to, count);
     }
     Ok(fresh)
 }
@@ -231,6 +401,7 @@ pub(crate) fn put_all<S: Alter, E: Listed, W: Watch>(
 /// Takes these events in one transaction into an inbox's table with so many rows, and answers how
 /// many were not there. The watch is told after each thousand how many are in.
 pub(crate) fn keep<S: Alter, E: Listed, W: Watch>(
+    alloc: Global,
     conn: &mut Connection<S>,
     rows: u64,
     events: &E,
@@ -253,7 +424,7 @@ pub(crate) fn keep<S: Alter, E: Listed, W: Watch>(
     }
     let _schema = conn.schema();
     let mut tx = conn.transaction();
-    let fresh = put_all(&mut tx, rows, events, watch)?;
+    let fresh = put_all(alloc, &mut tx, rows, events, watch)?;
     tx.commit()?;
     Ok(fresh)
 }

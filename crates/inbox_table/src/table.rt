@@ -207,7 +207,7 @@ impl<S: Alter> Table<S> {
         if self.rows > MAX_PLACE || events.count() > MAX_PLACE - self.rows {
             return Err(TableFault::Store);
         }
-        match keep(&mut self.conn, self.rows, events, watch) {
+        match keep(self.alloc, &mut self.conn, self.rows, events, watch) {
             Ok(fresh) => {
                 self.rows = self.rows + fresh;
                 Ok(fresh)

@@ -24,6 +24,7 @@ use std::alloc::Global;
 /// Makes the inbox's table of version 2, puts the events of that of version 1 in, each at its old
 /// place, and drops that of version 1. The watch is told after each thousand how many are in.
 fn refill<S: Alter, W: Watch>(
+    alloc: Global,
     tx: &mut Transaction<'_, S>,
     layout: Layout,
     events: &Batch,
@@ -45,7 +46,7 @@ fn refill<S: Alter, W: Watch>(
         (state S.Store tx.old.conn.now) (state S.Store tx.new.conn.now) (λ _. ⊥) }
 {
     make_inbox(tx)?;
-    put_all(tx, 0, events, watch)?;
+    put_all(alloc, tx, 0, events, watch)?;
     drop_inbox(tx)?;
     Ok(())
 }
@@ -53,6 +54,7 @@ fn refill<S: Alter, W: Watch>(
 /// Copies the events of the inbox's table of version 1, which are these, into one of version 2 in
 /// its place, in one transaction. The watch is told as in [`refill`].
 fn copy<S: Alter, W: Watch>(
+    alloc: Global,
     conn: &mut Connection<S>,
     layout: Layout,
     events: &Batch,
@@ -76,7 +78,7 @@ fn copy<S: Alter, W: Watch>(
         return Err(Error::SqliteFailure(ErrorCode::TransactionState));
     }
     let mut tx = conn.transaction();
-    refill(&mut tx, layout, events, watch)?;
+    refill(alloc, &mut tx, layout, events, watch)?;
     tx.commit()
 }
 
@@ -105,7 +107,7 @@ pub(crate) fn upgrade<S: Alter, W: Watch>(
     if rows > MAX_PLACE {
         return Err(TableFault::Store);
     }
-    match copy(conn, layout, &events, watch) {
+    match copy(alloc, conn, layout, &events, watch) {
         Ok(()) => Ok(Found { rows, events }),
         Err(error) => Err(TableFault::from(error)),
     }

@@ -1,19 +1,21 @@
 -- The turns of a transaction that takes events.
-use Rattle.std.specs.Prelude.{◌≡◌, ◌≢◌, ◌⊎◌, ℕ, suc, ◌+◌, Bool, true, false, not, List, [], ◌∷◌, ◌++◌, length, IsPermutation, IsTrue}
+use Rattle.std.specs.Prelude.{◌≡◌, ◌≢◌, ℕ, suc, pos, ◌+◌, Bool, true, false, not, List, [], ◌∷◌, ◌++◌, length, IsPermutation, IsTrue}
 use Rattle.std.specs.List.{AllByRecursion}
+use Rattle.sqlite_value.specs.declared.value.Value.TheVariants.{Int, Text as Words}
+use Rattle.sqlite_value.specs.Order.{Row}
 use Rattle.sqlite_schema.specs.declared.schema.Schema.{Schema}
 use Rattle.sqlite_schema.specs.declared.schema.Table.{Table}
 use Rattle.sqlite_trees.specs.Tree.{Trees}
 use Rattle.sqlite.specs.Effect.{Database, IsDatabase}
-use Rattle.sqlite.specs.State.{State, IsRolledBack, IsUnchanged}
-use Rattle.attributes.specs.Event.{EventValue}
+use Rattle.sqlite.specs.State.{State, IsUnchanged}
+use Rattle.attributes.specs.Event.{EventValue, id_of, source_of, text}
 use Rattle.database_layout.specs.Layout.{HasInbox, HasInbox2, inbox_tree, schema_in}
 use Rattle.database_layout.specs.Making.{both_in, upgraded}
 use Rattle.database_layout.specs.declared.layout.Layout.{Layout}
 use Rattle.inbox.specs.KeyOrder.{key_cmp}
 use Rattle.inbox.specs.Ordered.{append_new, has}
 use Rattle.inbox_table.specs.Calls.{AreFreshEach, joined}
-use Rattle.inbox_table.specs.Rows.{AreNumbered, IsEachOnce, rows_from}
+use Rattle.inbox_table.specs.Rows.{AreNumbered, IsEachOnce, block_of_event, number_in, rows_from}
 use Rattle.inbox_table.specs.declared.version.Version.TheVariants.{Two}
 
 -- where events are put into an inbox: the table of a layout, or one that an upgrade made beside
@@ -62,10 +64,25 @@ pub record Puts (place : ℕ) (e : EventValue) (old new : State) (is_new : Bool)
   pub mode : IsTrue new.in_transaction
 
 -- within a transaction the event is put into the inbox at the place behind the last, as one that
--- isn't there: it is in, or the table refuses it, and the transaction is as it was or over
+-- isn't there: it is in, or the table refuses it, and the transaction is as it was
 abbrev pub PutsNew : ℕ → EventValue → State → State → Bool → Type 0
 PutsNew place e old new true = Puts place e old new true
-PutsNew place e old new false = IsUnchanged old new ⊎ IsRolledBack old new
+PutsNew place e old new false = IsUnchanged old new
+
+-- the values by which INSERT puts an event into the inbox's table at a place, and events from it on
+abbrev pub params_of : ℕ → EventValue → Row
+params_of place e =
+    Int (pos place)
+    ∷ Words (source_of e)
+    ∷ Words (id_of e)
+    ∷ Int (pos (number_in e))
+    ∷ Words (text e)
+    ∷ Int (pos (block_of_event e))
+    ∷ []
+
+abbrev pub params_from : ℕ → List EventValue → Row
+params_from place [] = []
+params_from place (e ∷ es) = params_of place e ++ params_from (suc place) es
 
 -- the inbox once events of `all` were put in behind so many rows, and these are left
 pub record IsTaking (h : Home) (rows : ℕ) (all left events : List EventValue) (old now : Database)
@@ -85,6 +102,12 @@ pub record IsKeeping (rows : ℕ) (all left : List EventValue) (old now : State)
   pub was_open : IsTrue now.is_open → IsTrue old.is_open
   pub committed : now.committed ≡ old.committed
   pub mode : IsTrue now.in_transaction
+
+-- within a transaction the events are put into the inbox behind so many rows, as such that aren't
+-- there: all are in, or the table refuses them, and the transaction is as it was
+abbrev pub PutsGroup : ℕ → List EventValue → State → State → Bool → Type 0
+PutsGroup rows L old new true = IsKeeping rows L [] old new (length L)
+PutsGroup rows L old new false = IsUnchanged old new
 
 -- the inbox once the events of lists were put in behind so many rows, and these lists are left
 pub record IsTakingEach (h : Home) (rows : ℕ) (all left : List (List EventValue))

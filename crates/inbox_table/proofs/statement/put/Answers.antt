@@ -1,6 +1,7 @@
-use Rattle.std.proofs.Common.{arith, ap, false}
+use Rattle.std.proofs.Common.{◌≡◌, ◌≤◌, arith, subst, IfOk, IsTrue, OnErr, Ok, Err, Result, false, true}
 use Rattle.sqlite.specs.Held.{state}
-use Rattle.sqlite.specs.State.{HasCleanDisk}
+use Rattle.sqlite.specs.State.{HasCleanDisk, KeepsCommit}
+use Rattle.sqlite.proofs.InsideLemmas.{keeps_then}
 use Rattle.inbox_table.specs.steps.Turns.{PutsNew}
 use Rattle.inbox_table.proofs.InsertLemmas.{fails_again, puts_again}
 use Rattle.inbox_table.proofs.statement.put.Goals as goal
@@ -15,7 +16,7 @@ returns-clause-put g c clean inside =
     let last = state g.S.Store c.put_unless_there-2.new.tx.conn.now in
     let clean1 : HasCleanDisk mid = omega (arith, c.put_unless_there-2.ensures.survives.clean, clean) in
     let left : PutsNew c.args.place c.args.event.now old mid false = rw c.if-branch.false at (c.in_ok-put_new.ensures.put clean1 inside) in
-    puts_again old mid last c.args.place c.args.event.now c.put_unless_there-2.result left inside (c.put_unless_there-2.ensures.put clean) (λ over. (c.put_unless_there-2.ensures.ended over).0)
+    puts_again old mid last c.args.place c.args.event.now c.put_unless_there-2.result left inside (c.put_unless_there-2.ensures.put clean)
 
 pub returns-clause-failed : goal.returns-clause-failed
 returns-clause-failed g c clean inside =
@@ -24,4 +25,4 @@ returns-clause-failed g c clean inside =
     let last = state g.S.Store c.put_unless_there-2.new.tx.conn.now in
     let clean1 : HasCleanDisk mid = omega (arith, c.put_unless_there-2.ensures.survives.clean, clean) in
     let left : PutsNew c.args.place c.args.event.now old mid false = rw c.if-branch.false at (c.in_ok-put_new.ensures.put clean1 inside) in
-    fails_again old mid last c.args.place c.args.event.now c.put_unless_there-2.result left inside (c.put_unless_there-2.ensures.failed clean) (λ over. ap (state g.S.Store) (c.put_unless_there-2.ensures.ended over).1)
+    fails_again old mid last c.put_unless_there-2.result left inside (c.put_unless_there-2.ensures.failed clean)

@@ -29,4 +29,5 @@ returns-in-Ok-clause-put g c clean inside =
 pub returns-in-Err-SqliteFailure-ConstraintViolation-clause-put :
     goal.returns-in-Err-SqliteFailure-ConstraintViolation-clause-put
 returns-in-Err-SqliteFailure-ConstraintViolation-clause-put g c clean inside =
-    refused_inside _ _ _ _ _ (rw c.in-Err-SqliteFailure-ConstraintViolation.is at (c.insert_new.ensures.runs clean inside))
+    let why = c.in-Err-SqliteFailure-ConstraintViolation in
+    refused_inside _ _ _ _ _ (rw (why.is, why.field-0-is, why.field-0-0-is) at (c.insert_new.ensures.runs clean inside))
