@@ -1,0 +1,38 @@
+"""Events are put into a database as such that aren't there, by how many instructions the program takes.
+
+No contract says by which statement an event is put in: an answer is the same where a search for it comes first. So instructions are
+counted, which are the same on every machine but for a few. To put an event in takes 2.4 times those of reading it; where it is
+looked for first, twice that.
+"""
+import re
+import shutil
+import subprocess
+
+import pytest
+from shell import Room
+
+FEW, MANY = 200, 600
+
+
+def instructions(program: str, words: str, room: Room) -> int:
+    """How many instructions a run of the program takes, which has to end with 0."""
+    command = ["valgrind", "--tool=callgrind", "--callgrind-out-file=/dev/null", program, *words.split()]
+    ran = subprocess.run(command, cwd=room.folder, stdin=subprocess.DEVNULL, capture_output=True, text=True, check=True)
+    counted = re.search(r"Collected : (\d+)", ran.stderr)
+    assert counted, ran.stderr
+    return int(counted[1])
+
+
+def more_for(program: str, words: str, room: Room) -> int:
+    """How many instructions more a run over MANY events takes than one over FEW."""
+    return instructions(program, words.format(MANY), room) - instructions(program, words.format(FEW), room)
+
+
+@pytest.mark.slow
+def test_new_events_are_put_in_without_a_search(program: str, room: Room) -> None:
+    if not shutil.which("valgrind"):
+        pytest.skip("valgrind isn't there")
+    events = [f'{{"specversion":"1.0","id":"{it:07d}","source":"/s","type":"t","sequence":"{it:020d}"}}' for it in range(1, MANY + 1)]
+    room.put({f"{count}.json": f"[{','.join(events[:count])}]" for count in (FEW, MANY)})
+    ratio = more_for(program, "take --db {0}.db {0}.json", room) / more_for(program, "check {0}.json", room)
+    assert ratio <= 2.7, f"{ratio:.2f} times the instructions of reading"
