@@ -1,8 +1,8 @@
 """Events are put into a database as such that aren't there, by how many instructions the program takes.
 
 No contract says by which statement an event is put in: an answer is the same where a search for it comes first. So instructions are
-counted, which are the same on every machine but for a few. To put an event in takes 2.4 times those of reading it; where it is
-looked for first, twice that.
+counted, which no load changes. To take a new event has 2.2 times the instructions of checking it; put in alone 2.75 times, and
+looked for first some 4.4.
 """
 import re
 import shutil
