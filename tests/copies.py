@@ -16,6 +16,8 @@ if words[0] == "build":
     made = words[words.index("-o") + 1]
     with open(os.environ["ASKED"] + ".built", "a") as it:
         it.write(words[words.index("--crate-name") + 1] + chr(10))
+    with open(os.environ["ASKED"] + ".sessions", "a") as it:
+        it.write(f"{os.getsid(0)} {os.getpgrp()}" + chr(10))
     if made.endswith(".rlib"):
         os.makedirs(made, exist_ok=True)
         made += "/format"

@@ -109,6 +109,14 @@ def test_what_stands_in_the_place_of_what_was_built(built: Built) -> None:
     assert built.build() == ["low"]
 
 
+def test_crates_share_a_session_and_each_has_a_group(built: Built) -> None:
+    """The system shares processors out by sessions before it looks at nice, and a group is ended as one."""
+    with open(f"{built.folder}/asked.sessions", encoding="ascii") as it:
+        found = [line.split() for line in it]
+    assert [session for session, _ in found] == [str(os.getsid(0))] * 2
+    assert len({group for _, group in found} | {str(os.getpgrp())}) == 3
+
+
 # What `rt` left.
 
 

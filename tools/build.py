@@ -215,7 +215,9 @@ class Build:
         how: dict[str, Any] = {"cwd": self.folder, "stdin": subprocess.DEVNULL, "stdout": self.log, "stderr": subprocess.STDOUT}
         how["env"] = {**os.environ, "PATH": f"{os.environ.get('PATH', '')}:{where}/bin"}
         words = ["nice", "-n", str(nice), "bash", "-c", script, "bash", *sum(steps, [])]
-        self.process = subprocess.Popen(words, start_new_session=True, **how)
+        # A group of its own, by which it is ended, and no session: Linux shares processors out by sessions first, so that
+        # nice would not tell.
+        self.process = subprocess.Popen(words, preexec_fn=os.setpgrp, **how)
 
     def seconds(self) -> float:
         return time.monotonic() - self.started
