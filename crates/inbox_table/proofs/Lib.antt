@@ -11,6 +11,7 @@ pub mod OpenLemmas
 pub mod SameLemmas
 pub mod ReadLemmas
 pub mod LoadLemmas
+pub mod LookupLemmas
 pub mod AdoptLemmas
 pub mod OnceLemmas
 pub mod LawLemmas

@@ -23,7 +23,7 @@ use Rattle.inbox_table.proofs.HomeLemmas.{gone_over, one}
 use Rattle.inbox_table.proofs.TextLemmas.{load_query, select_text, select_is}
 use Rattle.inbox_table.proofs.RowLemmas.{below}
 
-abbrev out_of : Version → ℕ → EventValue → Output
+abbrev pub out_of : Version → ℕ → EventValue → Output
 out_of v p e = (Int (pos p) ∷ [], shown_of v p e)
 
 abbrev outputs : Version → ℕ → List EventValue → List Output
@@ -67,7 +67,7 @@ loads v old last events rows box h =
 
 -- ---- the rows tell the events
 
-same_row : (v : Version) (p q : ℕ) (a b : EventValue) → shown_of v p a ≡ shown_of v q b → text a ≡ text b
+pub same_row : (v : Version) (p q : ℕ) (a b : EventValue) → shown_of v p a ≡ shown_of v q b → text a ≡ text b
 same_row v p q a b h = cc
 
 pub tells : ((e f : EventValue) → IsEvent e → IsEvent f → text e ≡ text f → e ≡ f) → (v : Version) (p : ℕ) (A B : List EventValue) → AreNumbered A → AreNumbered B → shown_from v p A ≡ shown_from v p B → A ≡ B

@@ -2,7 +2,9 @@
 use Rattle.std.proofs.Common.{◌≡◌, ℕ, pos, negsuc, List, [], ◌∷◌, codes, false, None, refl}
 use Rattle.sqlite_value.specs.declared.value.Value.TheVariants.{Null, Int}
 use Rattle.sqlite_value.specs.declared.keys.Collation.TheVariants.{Binary}
-use Rattle.sqlite_sql.specs.Term.{Term, lit, col}
+use Rattle.sqlite_sql.specs.declared.ops.BinaryOp.TheVariants.{Compare}
+use Rattle.sqlite_sql.specs.declared.ops.CompareOp.TheVariants.{Eq, Gt}
+use Rattle.sqlite_sql.specs.Term.{Term, lit, col, op2}
 use Rattle.sqlite_sql.specs.Query.{Query, inner, end}
 use Rattle.sqlite_schema.specs.declared.command.Upsert.{Upsert}
 use Rattle.sqlite_schema.specs.declared.command.Source.TheVariants.{Values}
@@ -18,7 +20,7 @@ use Rattle.inbox_table.specs.Version.{HasTable}
 use Rattle.inbox_table.specs.declared.version.Version.{Version}
 use Rattle.inbox_table.specs.declared.version.Version.TheVariants.{One, Two}
 use Rattle.inbox_table.specs.steps.Turns.{Home, At, Beside, IsHome, schema_at}
-pub use Rattle.inbox_table.specs.Texts.{insert_group_text, insert_new_text, insert_text, select_text}
+pub use Rattle.inbox_table.specs.Texts.{insert_group_text, insert_new_text, insert_text, named_text, page_text, select_text}
 
 -- the values of a new row
 abbrev pub terms : List Term
@@ -142,3 +144,51 @@ select_is Two ServiceUpgraded has = record { command = refl; listing = refl; pla
 select_is Two ShiftedUpgraded has = record { command = refl; listing = refl; plain = (refl, refl) }
 select_is One _ has = absurd has
 select_is Two _ has = absurd has
+
+-- the rows of a tree that pass a filter, by place, up to a limit
+abbrev pub search_query : List Term → Term → ℕ → Query
+search_query filter limit tree = record (load_query Two tree) { filter = filter; limit = limit }
+
+-- what a SELECT with a filter means where the table is
+pub record Searches (text : List ℕ) (filter : List Term) (limit : Term) (l : Layout) : Type 0 where
+  pub command : command_of (understood (schema_in l) text) ≡ Select (record { lets = []; body = search_query filter limit (inbox_tree l) }) (names Two)
+  pub listing : reads_listing (schema_in l) text ≡ false
+  pub plain : IsPlain (understood (schema_in l) text)
+
+-- no limit
+abbrev pub no_limit : Term
+no_limit = lit (Int (negsuc 0))
+
+-- WHERE source = ?1 AND id = ?2
+abbrev pub named_filter : List Term
+named_filter = op2 (Compare Eq Binary) (col 1 2) (col 0 0) ∷ op2 (Compare Eq Binary) (col 1 3) (col 0 1) ∷ []
+
+pub named_is : (l : Layout) → HasTable Two l → Searches named_text named_filter no_limit l
+unfolding understood everything
+named_is Inbox2 has = record { command = refl; listing = refl; plain = (refl, refl) }
+named_is Inbox2Service has = record { command = refl; listing = refl; plain = (refl, refl) }
+named_is ServiceInbox2 has = record { command = refl; listing = refl; plain = (refl, refl) }
+named_is Upgraded has = record { command = refl; listing = refl; plain = (refl, refl) }
+named_is UpgradedService has = record { command = refl; listing = refl; plain = (refl, refl) }
+named_is ServiceUpgraded has = record { command = refl; listing = refl; plain = (refl, refl) }
+named_is ShiftedUpgraded has = record { command = refl; listing = refl; plain = (refl, refl) }
+named_is _ has = absurd has
+
+-- WHERE place > ?1
+abbrev pub page_filter : List Term
+page_filter = op2 (Compare Gt Binary) (col 1 0) (col 0 0) ∷ []
+
+-- LIMIT ?2
+abbrev pub page_limit : Term
+page_limit = col 0 1
+
+pub page_is : (l : Layout) → HasTable Two l → Searches page_text page_filter page_limit l
+unfolding understood everything
+page_is Inbox2 has = record { command = refl; listing = refl; plain = (refl, refl) }
+page_is Inbox2Service has = record { command = refl; listing = refl; plain = (refl, refl) }
+page_is ServiceInbox2 has = record { command = refl; listing = refl; plain = (refl, refl) }
+page_is Upgraded has = record { command = refl; listing = refl; plain = (refl, refl) }
+page_is UpgradedService has = record { command = refl; listing = refl; plain = (refl, refl) }
+page_is ServiceUpgraded has = record { command = refl; listing = refl; plain = (refl, refl) }
+page_is ShiftedUpgraded has = record { command = refl; listing = refl; plain = (refl, refl) }
+page_is _ has = absurd has

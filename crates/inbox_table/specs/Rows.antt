@@ -1,5 +1,5 @@
 -- The rows of the table, and the list of events that they stand for.
-use Rattle.std.specs.Prelude.{◌≡◌, ◌⊎◌, ◌/◌, ℕ, suc, pos, List, [], ◌∷◌, ◌&&◌, Bool, bytes_eq, eqb, filter, IsPermutation, IsSome, unwrap_or}
+use Rattle.std.specs.Prelude.{◌≡◌, ◌⊎◌, ◌/◌, ℕ, suc, pos, List, [], ◌∷◌, ◌&&◌, Bool, bytes_eq, drop, eqb, filter, take, IsPermutation, IsSome, unwrap_or}
 use Rattle.std.specs.List.{AllByRecursion}
 use Rattle.sqlite_value.specs.declared.value.Value.TheVariants.{Null, Int, Text as Words}
 use Rattle.sqlite_value.specs.Order.{Row}
@@ -9,6 +9,7 @@ use Rattle.attributes.specs.Fault.{IsEvent}
 use Rattle.attributes.specs.Sequence.{number_of}
 use Rattle.database_layout.specs.Layout.{inbox_tree, schema_in}
 use Rattle.database_layout.specs.declared.layout.Layout.{Layout}
+use Rattle.inbox.specs.Shown.{has_key}
 use Rattle.inbox_table.specs.Version.{HasTable}
 use Rattle.inbox_table.specs.declared.version.Version.{Version}
 use Rattle.inbox_table.specs.declared.version.Version.TheVariants.{One, Two}
@@ -29,6 +30,15 @@ is_of_block source k e = bytes_eq (source_of e) source && eqb (block_of_event e)
 -- the events of a source and block, in the order in which they stand in the inbox's table
 abbrev pub events_of_block : List ℕ → ℕ → List EventValue → List EventValue
 events_of_block source k events = filter (is_of_block source k) events
+
+-- the events of a source and an id, in the order in which they stand in the inbox's table
+abbrev pub events_named : List ℕ → List ℕ → List EventValue → List EventValue
+events_named source id events = filter (has_key source id) events
+
+-- the events at so many places of the inbox's table behind one, or those that are there; the first
+-- place is 1
+abbrev pub events_after : ℕ → ℕ → List EventValue → List EventValue
+events_after place count events = take count (drop place events)
 
 -- the last values of a row of the inbox's table, which version 1 doesn't have
 abbrev pub tail_of : Version → EventValue → Row

@@ -19,3 +19,11 @@ insert_group_text = codes "INSERT INTO inbox2 (place, source, id, number, body, 
 abbrev pub select_text : Version → List ℕ
 select_text One = codes "SELECT place, source, id, number, body FROM inbox ORDER BY place"
 select_text Two = codes "SELECT place, source, id, number, body, block FROM inbox2 ORDER BY place"
+
+-- SELECT: shows the rows of the inbox's table with a source and an id, by place
+abbrev pub named_text : List ℕ
+named_text = codes "SELECT place, source, id, number, body, block FROM inbox2 WHERE source = ?1 AND id = ?2 ORDER BY place"
+
+-- SELECT: shows the rows of the inbox's table at so many places behind one, by place
+abbrev pub page_text : List ℕ
+page_text = codes "SELECT place, source, id, number, body, block FROM inbox2 WHERE place > ?1 ORDER BY place LIMIT ?2"

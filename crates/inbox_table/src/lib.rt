@@ -8,6 +8,7 @@ mod inspection;
 pub mod laws;
 mod listed;
 mod lists;
+mod lookup;
 mod opening;
 mod reading;
 mod row;

@@ -7,7 +7,7 @@ ghost use Rattle.attributes.specs.Event.{EventValue, id_of, source_of, text};
 ghost use Rattle.attributes.specs.Fault.{IsEvent};
 ghost use Rattle.attributes.specs.Sequence.{number_of};
 ghost use Rattle.inbox_table.specs.Rows.{IsNumbered, shown_of};
-ghost use Rattle.inbox_table.specs.steps.Reads.{HasTail};
+ghost use Rattle.inbox_table.specs.steps.Reads.{HasTail, IsShownRow};
 ghost use Rattle.inbox_table.specs.declared.fault.TableFault.TheVariants.{OutOfMemory, Store, Foreign};
 
 use crate::fault::TableFault;
@@ -143,5 +143,32 @@ pub(crate) fn event_of(
         Ok(event)
     } else {
         Err(TableFault::Foreign)
+    }
+}
+
+/// The place that a row of the inbox's table has in its first value.
+fn place_of(row: &Row) -> Option<u64>
+    ensures some { IfSome result (λ place. column row.now 0 ≡ Int (pos place)) }
+    ensures none { IfNone result ((place : ℕ) → 0 < length row.now
+        → column row.now 0 ≢ Int (pos place)) }
+{
+    match row.get_ref(0) {
+        Ok(ValueRef::Int(n)) if n >= 0 => Some(n as u64),
+        _ => None,
+    }
+}
+
+/// The event of the row of an inbox's table of version 2, at whatever place; else `Foreign`.
+pub(crate) fn placed_event(alloc: Global, row: &Row) -> Result<Sequenced, TableFault>
+    ensures event { IfOk result (λ found. (e : EventValue) → IsShownRow row.now e → found ≡ e) }
+    ensures foreign { IfErr result (λ f. f ≡ Foreign → (e : EventValue) → IsShownRow row.now e → ⊥) }
+{
+    text_tells_events();
+    let Some(place) = place_of(row) else {
+        return Err(TableFault::Foreign);
+    };
+    match event_of(alloc, row, Version::Two, place) {
+        Ok(event) => Ok(event),
+        Err(fault) => Err(fault),
     }
 }

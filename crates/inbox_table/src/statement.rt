@@ -22,7 +22,7 @@ use sqlite_value::value::ValueRef;
 use std::alloc::Global;
 
 /// The number as SQL has it in a row of the inbox's table.
-fn signed(number: u64) -> i64
+pub(crate) fn signed(number: u64) -> i64
     requires { number < 2 ^ 63 }
     ensures { result ≡ pos number }
 {

@@ -6,7 +6,7 @@ ghost use Rattle.sqlite.specs.State.{HasCleanDisk, Survives};
 ghost use Rattle.attributes.specs.Event.{EventValue};
 ghost use Rattle.database_layout.specs.Layout.{has_inbox};
 ghost use Rattle.inbox_table.specs.Calls.{Adopts, Creates, IsAsItWas, IsTold, KeepCall, KeepEachCall, KeepEachEffect, KeepEffect, LeavesUpgrade, MayMake, MayTake, ReadEffect, Rejects, StandsFor, has_both, joined};
-ghost use Rattle.inbox_table.specs.Rows.{events_of_block};
+ghost use Rattle.inbox_table.specs.Rows.{events_after, events_named, events_of_block};
 ghost use Rattle.inbox_table.specs.declared.fault.TableFault.TheVariants.{Foreign};
 
 use crate::adoption::{found_in, listed_in};
@@ -14,6 +14,7 @@ use crate::creation::create;
 use crate::fault::TableFault;
 use crate::listed::Listed;
 use crate::lists::{keep_lists, length_of, total};
+use crate::lookup::{find_after, find_named};
 use crate::reading::Found;
 use crate::statement::keep;
 use crate::wanted::{Each, OfBlock};
@@ -280,6 +281,43 @@ impl<S: Alter> Table<S> {
             Err(fault) => return Err(fault),
         };
         Ok(found.events)
+    }
+
+    /// The events of this source and id, in the order of their places; several have different
+    /// texts. Time in proportion to those that are answered, and for a search in the index to the
+    /// logarithm of the number of rows; memory to those that are answered.
+    ///
+    /// It is refused as [`Table::load`] is.
+    pub fn find(&mut self, source: &str, id: &str) -> Result<Batch, TableFault>
+        ensures effect { HasCleanDisk (state S.Store self.new.conn)
+            → ReadEffect (events_named source.now id.now) self.old.rows
+            (state S.Store self.old.conn) (state S.Store self.new.conn) result }
+        ensures rows { self.new.rows ≡ self.old.rows }
+        ensures crash { Survives
+            (state S.Store self.old.conn) (state S.Store self.new.conn) (λ _. ⊥) }
+    {
+        find_named(self.alloc, &mut self.conn, source, id)
+    }
+
+    /// The events at the `count` places behind `after`, or those that are there, in the order of
+    /// their places, which count from 1. Time in proportion to those that are answered, and for a
+    /// search to the logarithm of the number of rows; memory to those that are answered.
+    ///
+    /// It is refused as [`Table::load`] is.
+    pub fn page(&mut self, after: u64, count: u64) -> Result<Batch, TableFault>
+        ensures effect { HasCleanDisk (state S.Store self.new.conn)
+            → ReadEffect (events_after after count) self.old.rows
+            (state S.Store self.old.conn) (state S.Store self.new.conn) result }
+        ensures rows { self.new.rows ≡ self.old.rows }
+        ensures crash { Survives
+            (state S.Store self.old.conn) (state S.Store self.new.conn) (λ _. ⊥) }
+    {
+        if self.rows > MAX_PLACE {
+            return Err(TableFault::Store);
+        }
+        let place = after.min(MAX_PLACE);
+        let limit = count.min(MAX_PLACE);
+        find_after(self.alloc, &mut self.conn, place, limit)
     }
 
     /// How many events the inbox's table has. Takes no time.

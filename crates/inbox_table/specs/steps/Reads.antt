@@ -1,5 +1,5 @@
 -- A reading of the table.
-use Rattle.std.specs.Prelude.{◌≡◌, ◌≤◌, ◌/◌, ℕ, suc, pos, Bool, List, [], filter, length, IsTrue}
+use Rattle.std.specs.Prelude.{◌≡◌, ◌≤◌, ◌/◌, ℕ, suc, pos, Bool, List, [], ◌∷◌, ◌++◌, drop, filter, length, IsTrue}
 use Rattle.sqlite_value.specs.declared.value.Value.TheVariants.{Int}
 use Rattle.sqlite_value.specs.Order.{Row, column}
 use Rattle.sqlite_schema.specs.declared.schema.Schema.{Schema}
@@ -12,7 +12,7 @@ use Rattle.sqlite.specs.State.{State, HasCleanDisk, IsUnchanged}
 use Rattle.attributes.specs.Event.{EventValue}
 use Rattle.database_layout.specs.Layout.{schema_in}
 use Rattle.database_layout.specs.declared.layout.Layout.{Layout}
-use Rattle.inbox_table.specs.Rows.{AreNumbered, IsListed, shown_from}
+use Rattle.inbox_table.specs.Rows.{AreNumbered, IsListed, IsNumbered, shown_from, shown_of}
 use Rattle.inbox_table.specs.Texts.{select_text}
 use Rattle.inbox_table.specs.Version.{HasTable}
 use Rattle.inbox_table.specs.declared.version.Version.{Version}
@@ -61,3 +61,21 @@ pub record HasRead {S : Type 0} (v : Version) (g : Ghosts S) (start now : Held S
 abbrev pub HasTail : Version → ℕ → Row → Type 0
 HasTail One number row = length row ≡ 5
 HasTail Two number row = (length row ≡ 6) × (column row 5 ≡ Int (pos (number / 1024)))
+
+-- a row that a question shows of the inbox's table is that of an event with a number, at some place
+pub record IsShownRow (row : Row) (e : EventValue) : Type 0 where
+  pub numbered : IsNumbered e
+  pub place : ℕ
+  pub is : row ≡ shown_of Two place e
+
+-- the rows that a question shows of the inbox's table are those of these events, one for each
+abbrev pub AreShown : List Row → List EventValue → Type 0
+AreShown [] [] = Unit {0}
+AreShown (row ∷ rows) (e ∷ events) = IsShownRow row e × AreShown rows events
+AreShown _ _ = ⊥
+
+-- the batch has the events of the rows of the inbox's table before a place, from 0, of those shown
+pub record HasShown (rows : List Row) (at : ℕ) (batch events : List EventValue) : Type 0 where
+  pub left : List EventValue
+  pub rest : AreShown (drop at rows) left
+  pub so_far : batch ++ left ≡ events

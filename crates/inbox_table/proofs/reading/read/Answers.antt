@@ -7,7 +7,7 @@ use Rattle.inbox_table.specs.Rows.{IsListed}
 use Rattle.inbox_table.specs.Texts.{select_text}
 use Rattle.inbox_table.specs.steps.Reads.{IsTableReading, TellsRows}
 use Rattle.inbox_table.proofs.ReadLemmas.{at_start, begun_same}
-use Rattle.inbox_table.proofs.SameLemmas.{kept_same, kept_then, on_weaker, refused_same, survives_reading}
+use Rattle.inbox_table.proofs.SameLemmas.{kept_same, kept_then, on_weaker, plain_in, refused_same, survives_reading}
 use Rattle.inbox_table.proofs.reading.read.Goals as goal
 
 pub returns-in_err-rows-clause-same : goal.returns-in_err-rows-clause-same
@@ -17,7 +17,7 @@ returns-in_err-rows-clause-same g c =
     let held = rw (c.in_err-rows.was, c.select_of.ensures) at c.query.follows.holds-at-none in
     let auto : IsTrue c.is_autocommit.result = search rules in
     let survives : Survives old new (CommitsShowing (select_text c.args.version) [] old) = held.survives in
-    refused_same c.args.version old new _ _ survives (c.is_autocommit.ensures.settled auto) (λ clean. held.err clean)
+    refused_same (select_text c.args.version) [] old new _ _ survives (c.is_autocommit.ensures.settled auto) (λ clean. held.err clean)
 
 pub returns-in_err-rows-clause-survives : goal.returns-in_err-rows-clause-survives
 returns-in_err-rows-clause-survives g c =
@@ -25,7 +25,7 @@ returns-in_err-rows-clause-survives g c =
     let new = state g.S.Store c.query.follows.lender-at-none in
     let held = rw (c.in_err-rows.was, c.select_of.ensures) at c.query.follows.holds-at-none in
     let survives : Survives old new (CommitsShowing (select_text c.args.version) [] old) = held.survives in
-    survives_reading c.args.version old new c.requires survives
+    survives_reading (select_text c.args.version) [] old new (plain_in c.args.version old c.requires) survives
 
 pub read_rows-requires : goal.read_rows-requires
 read_rows-requires g c clean = (at_start c.args.version g.S.Store c.args.conn.now c.in_ok-rows.rows.conn.now c.requires c.schema-schema.ensures.live (rw c.select_of.ensures at (c.in_ok-rows.ensures.begun clean))).0
@@ -45,7 +45,7 @@ survived g c =
     let old = state g.S.Store c.args.conn.now in
     let start = state g.S.Store c.in_ok-rows.rows.conn.now in
     let first : Survives old start (CommitsShowing (select_text c.args.version) [] old) = rw c.select_of.ensures at c.in_ok-rows.ensures.survives in
-    survives_then old start (state g.S.Store c.read_rows.new.rows.conn.now) _ _ _ (λ _ db none. none) (λ _ db none. none) (survives_reading c.args.version old start c.requires first) c.read_rows.ensures.survives
+    survives_then old start (state g.S.Store c.read_rows.new.rows.conn.now) _ _ _ (λ _ db none. none) (λ _ db none. none) (survives_reading (select_text c.args.version) [] old start (plain_in c.args.version old c.requires) first) c.read_rows.ensures.survives
 
 pub returns-clause-tells : goal.returns-clause-tells
 returns-clause-tells g c clean =
