@@ -161,7 +161,8 @@ fn place_of(row: &Row) -> Option<u64>
 /// The event of the row of an inbox's table of version 2, at whatever place; else `Foreign`.
 pub(crate) fn placed_event(alloc: Global, row: &Row) -> Result<Sequenced, TableFault>
     ensures event { IfOk result (λ found. (e : EventValue) → IsShownRow row.now e → found ≡ e) }
-    ensures foreign { IfErr result (λ f. f ≡ Foreign → (e : EventValue) → IsShownRow row.now e → ⊥) }
+    ensures foreign { IfErr result (λ f. f ≡ Foreign
+        → (e : EventValue) → IsShownRow row.now e → ⊥) }
 {
     text_tells_events();
     let Some(place) = place_of(row) else {

@@ -292,6 +292,9 @@ impl<S: Alter> Table<S> {
         ensures effect { HasCleanDisk (state S.Store self.new.conn)
             → ReadEffect (events_named source.now id.now) self.old.rows
             (state S.Store self.old.conn) (state S.Store self.new.conn) result }
+        ensures was_open { HasCleanDisk (state S.Store self.new.conn)
+            → IsTrue (state S.Store self.new.conn).is_open
+            → IsTrue (state S.Store self.old.conn).is_open }
         ensures rows { self.new.rows ≡ self.old.rows }
         ensures crash { Survives
             (state S.Store self.old.conn) (state S.Store self.new.conn) (λ _. ⊥) }
@@ -308,6 +311,9 @@ impl<S: Alter> Table<S> {
         ensures effect { HasCleanDisk (state S.Store self.new.conn)
             → ReadEffect (events_after after count) self.old.rows
             (state S.Store self.old.conn) (state S.Store self.new.conn) result }
+        ensures was_open { HasCleanDisk (state S.Store self.new.conn)
+            → IsTrue (state S.Store self.new.conn).is_open
+            → IsTrue (state S.Store self.old.conn).is_open }
         ensures rows { self.new.rows ≡ self.old.rows }
         ensures crash { Survives
             (state S.Store self.old.conn) (state S.Store self.new.conn) (λ _. ⊥) }

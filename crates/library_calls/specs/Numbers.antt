@@ -57,7 +57,7 @@ module _ {S : Type 0} (g : Ghosts S) where
     pub base : is.base ≡ was.base
     pub crash : Survives (state g was.table.conn) (state g is.table.conn)
         (λ trees. IsTrue (state g was.table.conn).is_open
-        → MayNumber was.base events was.counted (state g was.table.conn).now trees)
+        → MayNumber was.base events was.counted (state g was.table.conn) trees)
     pub told : MatchResult result
         (λ answers. MatchResult made (λ m. IsPageLine answers m.text m.listed) IsWant)
         (λ why. made ≡ Err (number_status why))

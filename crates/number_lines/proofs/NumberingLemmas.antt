@@ -33,8 +33,8 @@ each_numbered (K ∷ lists) (N ∷ answers) more replies were then = (were.0, ea
 
 module _ (aside : Option (List ℕ)) (base : ℕ) where
   -- what a call of the numberer did, as it says
-  pub numbers_of : (lists answers : List (List EventValue)) (old new : State) (was is : Option Counts) → length answers ≡ length lists → AreNumberedEach lists answers → NumberEachEffect base lists old new was is (Ok answers) → Numbers base lists answers old new was is
-  numbers_of lists answers old new was is one_each each effect = record { one_each = one_each; each = each; numbers = λ events rows stood. effect.numbers events rows stood }
+  pub numbers_of : (lists answers : List (List EventValue)) (old new : State) (was is : Option Counts) → length answers ≡ length lists → AreNumberedEach lists answers → (HasCleanDisk new → HasCleanDisk old) → NumberEachEffect base lists old new was is (Ok answers) → Numbers base lists answers old new was is
+  numbers_of lists answers old new was is one_each each cleaner effect = record { one_each = one_each; each = each; clean = cleaner; numbers = λ clean events rows stood. effect.numbers clean events rows stood }
 
   -- nothing of the texts is written yet
   pub unwritten : (tells : List Told) (lists answers : List (List EventValue)) (old new : State) (was is : Option Counts) (out err : Option (List ℕ)) → Numbers base lists answers old new was is → NumbersUnwritten base tells lists old new was is out out err err
@@ -82,15 +82,16 @@ module _ (aside : Option (List ℕ)) (base : ℕ) where
   }
 
   pub numbers_none : (s : State) (c : Option Counts) → Numbers base [] [] s s c c
-  numbers_none s c = record { one_each = refl; each = tt; numbers = λ events rows was. (tt, was) }
+  numbers_none s c = record { one_each = refl; each = tt; clean = λ clean. clean; numbers = λ clean events rows was. (tt, was) }
 
   pub numbers_join : (lists answers more replies : List (List EventValue)) (old mid new : State) (was then is : Option Counts) → Numbers base lists answers old mid was then → Numbers base more replies mid new then is → Numbers base (lists ++ more) (answers ++ replies) old new was is
   numbers_join lists answers more replies old mid new was then is first later = record {
     one_each = (let e : length (answers ++ replies) ≡ length (lists ++ more) = omega (arith, first.one_each, later.one_each, length-append answers replies, length-append lists more) in e);
     each = each_numbered lists answers more replies first.each later.each;
-    numbers = λ events rows stood.
-        let one = first.numbers events rows stood in
-        let two = later.numbers (taken events (joined lists)) (append_new key_cmp rows (joined answers)) one.1 in (
+    clean = λ clean. first.clean (later.clean clean);
+    numbers = λ clean events rows stood.
+        let one = first.numbers (later.clean clean) events rows stood in
+        let two = later.numbers clean (taken events (joined lists)) (append_new key_cmp rows (joined answers)) one.1 in (
           each_join (from base) events lists answers more replies one.0 two.0,
           subst (λ A. StandsNumbered base A (append_new key_cmp rows (joined (answers ++ replies))) new is) (sym (taken_join events lists more))
               (subst (λ D. StandsNumbered base (taken (taken events (joined lists)) (joined more)) D new is) (sym (taken_join rows answers replies)) two.1),
@@ -101,9 +102,10 @@ module _ (aside : Option (List ℕ)) (base : ℕ) where
   numbers_stay lists answers old mid new was then is first none = record {
     one_each = first.one_each;
     each = first.each;
-    numbers = λ events rows stood.
-        let one = first.numbers events rows stood in
-        (one.0, (none.numbers (taken events (joined lists)) (append_new key_cmp rows (joined answers)) one.1).1);
+    clean = λ clean. first.clean (none.clean clean);
+    numbers = λ clean events rows stood.
+        let one = first.numbers (none.clean clean) events rows stood in
+        (one.0, (none.numbers clean (taken events (joined lists)) (append_new key_cmp rows (joined answers)) one.1).1);
   }
 
   -- what the stream numbered so far, and in which states

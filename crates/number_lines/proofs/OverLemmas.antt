@@ -38,7 +38,7 @@ pub into : (base : ℕ) (old mid new : State) (was is : Option Counts) → (HasC
 into base old mid new was is opens cleaner lists answers n clean is_open rows holds =
     let o = opens (cleaner clean) in
     let same : o.1 ≡ rows = opened_events old mid o.1 rows o.2 holds in
-    let it = n.numbers o.0 o.1 o.3 in (
+    let it = n.numbers clean o.0 o.1 o.3 in (
       o.0,
       subst (IsNumberer base o.0) same (record { bare = o.3.bare; once = o.3.once; numbers = o.3.numbers }),
       it.0,

@@ -1,7 +1,7 @@
 -- Lines of an input, numbered and answered.
 use Rattle.std.specs.Prelude.{◌≡◌, ◌⊎◌, ℕ, List, [], length, Option}
 use Rattle.std.specs.Io.KnownBytes.{Appends, IsAtEnd, Keeps}
-use Rattle.sqlite.specs.State.{State}
+use Rattle.sqlite.specs.State.{State, HasCleanDisk}
 use Rattle.attributes.specs.Event.{EventValue}
 use Rattle.inbox.specs.KeyOrder.{key_cmp}
 use Rattle.inbox.specs.Ordered.{append_new}
@@ -20,12 +20,14 @@ use Rattle.number_lines.specs.declared.stream.NumberingFault.{NumberingFault}
 use Rattle.number_lines.specs.declared.stream.NumberingFault.TheVariants as fault
 
 -- from one state of a numberer to the other the events of these lists were numbered, and these are
--- they with their numbers, while the numberer stands
+-- they with their numbers, while the numberer stands and the disk gives back what was written
 pub record Numbers (base : ℕ) (lists answers : List (List EventValue)) (old new : State)
     (was is : Option Counts) : Type 0 where
   pub one_each : length answers ≡ length lists
   pub each : AreNumberedEach lists answers
-  pub numbers : (events rows : List EventValue) → StandsNumbered base events rows old was
+  pub clean : HasCleanDisk new → HasCleanDisk old
+  pub numbers : HasCleanDisk new → (events rows : List EventValue)
+      → StandsNumbered base events rows old was
       → AnswersEach (from base) events lists answers
       × StandsNumbered base (taken events (joined lists)) (append_new key_cmp rows (joined answers)) new is
 

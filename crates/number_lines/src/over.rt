@@ -24,8 +24,8 @@ pub struct NumberedStream<S: Alter + Drop> {
 
 /// [`number_lines`] by the numberer of a database, whose sources begin behind the base; it is made
 /// where there is none, before anything is read. Where it isn't to be had, nothing is read or
-/// written. Time to open it in proportion to its rows, and memory too; further memory for the lines
-/// of a turn.
+/// written. Time to open it in proportion to its rows, and memory too, of which little stays;
+/// further memory for the lines of a turn.
 pub fn number_over<S: Alter + Drop, R: Read, W: Write, E: Write>(
     alloc: Global,
     conn: Connection<S>,

@@ -64,7 +64,7 @@ pub fn number_gathered<S: Alter + Drop, W: Write, E: Write>(
         (state S.Store numberer.old.table.conn) (state S.Store numberer.new.table.conn)
         (λ trees. IsTrue (state S.Store numberer.old.table.conn).is_open
         → MayNumberEach numberer.old.base gathered.now.lists numberer.old.counted
-        (state S.Store numberer.old.table.conn).now trees) }
+        (state S.Store numberer.old.table.conn) trees) }
 {
     let answers = match numberer.number_each(&gathered.lists) {
         Ok(answers) => answers,

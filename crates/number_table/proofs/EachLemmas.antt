@@ -26,7 +26,7 @@ use Rattle.number_table.proofs.StandLemmas.{was_clean}
 taken_joined : (A L : List EventValue) (lists : List (List EventValue)) → taken A (joined (L ∷ lists)) ≡ taken (taken A L) (joined lists)
 taken_joined A L lists = append_new-append key_cmp_total A L (joined lists)
 
-joined_more : (lists : List (List EventValue)) (L : List EventValue) → joined (lists ++ L ∷ []) ≡ joined lists ++ L
+pub joined_more : (lists : List (List EventValue)) (L : List EventValue) → joined (lists ++ L ∷ []) ≡ joined lists ++ L
 joined_more lists L = flat_map-append (λ (M : List EventValue). M) lists (L ∷ []) ∙ ap (λ M. joined lists ++ M) (append-nil L)
 
 pub taken_more : (A : List EventValue) (lists : List (List EventValue)) (L : List EventValue) → taken A (joined (lists ++ L ∷ [])) ≡ taken (taken A (joined lists)) L

@@ -27,7 +27,7 @@ last_equal Equal s h = h
 last_equal Greater s h = cc
 
 -- events that tie are one
-one_event : (e f : EventValue) → IsEvent e → IsEvent f → is_eq (key_cmp e f) ≡ true → e ≡ f
+pub one_event : (e f : EventValue) → IsEvent e → IsEvent f → is_eq (key_cmp e f) ≡ true → e ≡ f
 one_event e f he hf h = same_text e f he hf (exact_bytes (text e) (text f) (last_equal (pair_cmp e f) (text_cmp e f) (equal_from (key_cmp e f) h)))
 
 itself : (e f : EventValue) → e ≡ f → is_eq (key_cmp e f) ≡ true

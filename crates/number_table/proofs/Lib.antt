@@ -2,3 +2,4 @@ mod KeepLemmas
 mod StandLemmas
 mod ForeignLemmas
 pub mod EachLemmas
+mod LookLemmas

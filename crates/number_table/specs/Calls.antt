@@ -1,7 +1,6 @@
 -- What a numberer has, and what its calls do.
 use Rattle.std.specs.Prelude.{◌≡◌, ◌⊎◌, ⊤, ℕ, List, Option, Result, IfOk, IfSome, IsTrue, OnErr, OnOk}
 use Rattle.sqlite_trees.specs.Tree.{Trees}
-use Rattle.sqlite.specs.Effect.{Database}
 use Rattle.sqlite.specs.State.{State, HasCleanDisk}
 use Rattle.std.specs.List.{AllByRecursion}
 use Rattle.attributes.specs.Event.{EventValue}
@@ -41,9 +40,10 @@ AnswersNumbers base events L answers = HaveNumbers (number (from base) (taken ev
 -- what numbering the events of L does to the numberer over a table
 pub record NumberEffect (base : ℕ) (L : List EventValue) (old new : State)
     (was is : Option Counts) (result : Result (List EventValue) NumbererFault) : Type 0 where
-  -- each event is answered with its number: the one that its text had, else its source's next; and
-  -- the table has the new ones behind what there was
-  pub numbers : (events rows : List EventValue) → StandsNumbered base events rows old was
+  -- while the disk gives back what was written, each event is answered with its number: the one that
+  -- its text had, else its source's next; and the table has the new ones behind what there was
+  pub numbers : HasCleanDisk new → (events rows : List EventValue)
+      → StandsNumbered base events rows old was
       → IfOk result (λ answers. AnswersNumbers base events L answers
       × StandsNumbered base (taken events L) (append_new key_cmp rows answers) new is)
   -- refused, it has numbered what it had
@@ -59,12 +59,12 @@ pub record LeavesNumbers {T : Type 0} (old new : State) (result : Result T Numbe
 
 -- these are the trees of a numberer's database that has taken the events of L with their numbers,
 -- whatever was numbered before
-pub record MayNumber (base : ℕ) (L : List EventValue) (was : Option Counts) (old : Database)
+pub record MayNumber (base : ℕ) (L : List EventValue) (was : Option Counts) (old : State)
     (trees : Trees) : Type 0 where
   pub answers : List EventValue
-  pub numbers : (events : List EventValue) → IfSome was (IsCountOf (from base) events)
+  pub numbers : (events rows : List EventValue) → StandsNumbered base events rows old was
       → AnswersNumbers base events L answers
-  pub takes : MayTake answers old trees
+  pub takes : MayTake answers old.now trees
 
 -- no numberer with this base leaves these rows in its table
 abbrev pub NoneLeaves : ℕ → List EventValue → Type 0

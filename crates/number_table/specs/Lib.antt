@@ -1,3 +1,4 @@
 pub mod Fault
 pub mod Calls
 pub mod Each
+pub mod Lookups

@@ -3,6 +3,7 @@
 
 mod fault;
 mod lists;
+mod lookup;
 mod numberer;
 
 pub use fault::NumbererFault;

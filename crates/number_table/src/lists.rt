@@ -5,25 +5,27 @@ ghost use Rattle.std.specs.List.{AllByRecursion};
 ghost use Rattle.attributes.specs.Event.{EventValue};
 ghost use Rattle.attributes.specs.Fault.{IsEvent};
 ghost use Rattle.inbox_table.specs.Calls.{joined};
-ghost use Rattle.numbers.specs.Counts.{IsCountOf};
+ghost use Rattle.numbers.specs.Counts.{IsCountOf, KnowsEach};
 ghost use Rattle.numbers.specs.Numbered.{AreBare};
 ghost use Rattle.numbers.specs.Numberer.{taken};
 ghost use Rattle.number_table.specs.Each.{AnswersEach, AreNumberedEach};
 
 use attributes::{Batch, Events, List};
-use numbers::{Counted, NumberFault, number_all};
+use numbers::{Counted, Known, NumberFault, number_all};
 use std::alloc::Global;
 
-/// The events of each list with a numberer's numbers, in their order. Where it is refused, some of
-/// the events may be counted.
+/// The events of each list with a numberer's numbers, in their order. What has a number among them
+/// has to be known with it. Where it is refused, some of the events may be counted.
 pub(crate) fn number_lists(
     alloc: Global,
     counted: &mut Counted,
+    known: &mut Known,
     lists: &List<Events>,
 ) -> Result<List<Batch>, NumberFault>
     requires { AllByRecursion AreBare lists.now }
     ensures numbers { IfOk result (λ answers. (base : List ℕ → ℕ) (A : List EventValue)
-        → IsCountOf base A counted.old → AnswersEach base A lists.now answers
+        → IsCountOf base A counted.old → KnowsEach base A known.old (joined lists.now)
+        → AnswersEach base A lists.now answers
         × IsCountOf base (taken A (joined lists.now)) counted.new) }
     ensures each { IfOk result (AreNumberedEach lists.now) }
     ensures one_each { IfOk result (λ answers. length answers ≡ length lists.now) }
@@ -31,7 +33,7 @@ pub(crate) fn number_lists(
 {
     let mut answers = List::empty(alloc);
     for i in 0..lists.len() {
-        let batch = number_all(alloc, counted, lists.at(i))?;
+        let batch = number_all(alloc, counted, known, lists.at(i))?;
         answers.push(batch)?;
     }
     Ok(answers)

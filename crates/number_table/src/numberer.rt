@@ -14,15 +14,15 @@ ghost use Rattle.number_table.specs.Fault.{of_numbers, of_table};
 ghost use Rattle.number_table.specs.declared.fault.NumbererFault.TheVariants.{Foreign};
 
 use crate::fault::NumbererFault;
-use crate::lists::number_lists;
+use crate::lookup::{answer_all, answer_each};
 use attributes::{Batch, Events, List};
 use inbox_table::{Loaded, NotMade, Table, Unwatched};
-use numbers::{Counted, count_all, number_all, refusal};
+use numbers::{Counted, count_all, refusal};
 use sqlite::{Alter, Connection};
 use std::alloc::Global;
 
 /// A numberer over its table, whose rows are the events that it numbered, with their numbers: a
-/// site's table. Memory in proportion to them.
+/// site's table. Memory for the last number of each source, and for a filter of 1 to 16 MiB.
 #[derive(Drop)]
 pub struct Numberer<S: Alter> {
     pub table: Table<S>,
@@ -45,8 +45,9 @@ impl<S: Alter + Drop> Numberer<S> {
     ghost use Rattle.number_table.specs.Each.{AreNumberedEach, MayNumberEach, NumberEachEffect};
 
     /// Opens the numberer of a database, with the base that it was made with, or makes one where
-    /// there is no table. Each row is read. Time and memory in proportion to the rows: all of them
-    /// at first, and a text and its number of each once it is counted.
+    /// there is no table. Each row is read. Time and memory in proportion to the rows; what stays is
+    /// the last number of each source, and a filter of the texts that takes 4 bytes for each row
+    /// that there is now, 1 MiB at least and 16 MiB at most.
     ///
     /// Refused as [`Table::open_and_load`] is; `Foreign` too where a row isn't that of an event with
     /// its source's next number, or a text has two: never of a table that a numberer with this base
@@ -90,7 +91,8 @@ impl<S: Alter + Drop> Numberer<S> {
 
     /// Numbers the events: each gets the number that its text has, or else its source's next, and
     /// the new ones are kept in the table, in one transaction that is synced. It answers the events
-    /// with their numbers, in their order. Time as that of [`Table::keep`].
+    /// with their numbers, in their order. The table is asked for each event that may have a number,
+    /// as [`Table::find`] is; all else is the time of [`Table::keep`].
     ///
     /// `HasSequence` or `TooLarge` names the first event that can't be numbered, before anything is
     /// done. `Full` names one whose source has no number left. Whatever is refused, the table is as
@@ -109,7 +111,7 @@ impl<S: Alter + Drop> Numberer<S> {
             (state S.Store self.old.table.conn) (state S.Store self.new.table.conn)
             (λ trees. IsTrue (state S.Store self.old.table.conn).is_open
             → MayNumber self.old.base events.now self.old.counted
-            (state S.Store self.old.table.conn).now trees) }
+            (state S.Store self.old.table.conn) trees) }
     {
         if let Some(fault) = refusal(events) {
             return Err(NumbererFault::from(fault));
@@ -117,7 +119,7 @@ impl<S: Alter + Drop> Numberer<S> {
         let Some(mut counted) = self.counted.take() else {
             return Err(NumbererFault::Store);
         };
-        let batch = number_all(self.alloc, &mut counted, events)?;
+        let batch = answer_all(self.alloc, &mut self.table, &mut counted, events)?;
         match self.table.keep(&batch) {
             Ok(_) => {
                 self.counted = Some(counted);
@@ -148,12 +150,12 @@ impl<S: Alter + Drop> Numberer<S> {
             (state S.Store self.old.table.conn) (state S.Store self.new.table.conn)
             (λ trees. IsTrue (state S.Store self.old.table.conn).is_open
             → MayNumberEach self.old.base lists.now self.old.counted
-            (state S.Store self.old.table.conn).now trees) }
+            (state S.Store self.old.table.conn) trees) }
     {
         let Some(mut counted) = self.counted.take() else {
             return Err(NumbererFault::Store);
         };
-        let answers = number_lists(self.alloc, &mut counted, lists)?;
+        let answers = answer_each(self.alloc, &mut self.table, &mut counted, lists)?;
         match self.table.keep_each(&answers) {
             Ok(_) => {
                 self.counted = Some(counted);

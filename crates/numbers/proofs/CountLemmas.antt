@@ -1,5 +1,5 @@
 -- Counts of a list that grows.
-use Rattle.std.proofs.Common.{◌≡◌, ℕ, suc, ◌+◌, ◌<◌, List, [], ◌∷◌, ◌++◌, length, take, slice_get, Bool, true, false, cond, ◌||◌, bytes_eq, if◌then◌else◌, Some, None, unwrap_or, refl, sym, ap, ap₂, subst, ◌∙◌, arith, true≢false, is_eq}
+use Rattle.std.proofs.Common.{◌≡◌, ℕ, zero, suc, ◌+◌, ◌<◌, List, [], ◌∷◌, ◌++◌, length, take, slice_get, Bool, true, false, cond, ◌||◌, bytes_eq, if◌then◌else◌, Some, None, unwrap_or, refl, sym, ap, ap₂, subst, ◌∙◌, arith, true≢false, is_eq}
 use Rattle.std.specs.declared.cmp.Ordering.{Ordering}
 use Rattle.std.specs.declared.cmp.Ordering.TheVariants.{Less, Equal, Greater}
 use Rattle.std.specs.Ordering.{ordering_then}
@@ -16,7 +16,8 @@ use Rattle.inbox.specs.Ordered.{has}
 use Rattle.inbox.proofs.OrderLemmas.{key_cmp_total}
 use Rattle.inbox.proofs.ReadLemmas.{take_next}
 use Rattle.inbox.proofs.SetLemmas.{append_new-append}
-use Rattle.numbers.specs.Counts.{Counts, IsCountOf, IsCountOfRows, counted, next}
+use Rattle.numbers.specs.Counts.{Counts, IsCountOf, IsCountOfRows, IsCounted, IsWholeCountOf, KeepsKnown, Knows, TextNumbers, next}
+use Rattle.numbers.specs.Filter.{MayHave}
 use Rattle.numbers.specs.Numbered.{AreBare, HasNumber, HaveNumbers, IsBare}
 use Rattle.numbers.specs.Numberer.{IsEachOnce, is_of_source, number, of_source, taken, up_to}
 use Rattle.numbers.proofs.BatchLemmas.{all_more}
@@ -24,7 +25,7 @@ use Rattle.numbers.proofs.ListLemmas.{all_map, all_there, has-append, itself, st
 use Rattle.numbers.proofs.NumberLemmas.{number_stays}
 use Rattle.numbers.proofs.NumberedLemmas.{at_name, elsewhere}
 
-bytes_same : (a b : List ℕ) → bytes_eq a b ≡ true → a ≡ b
+pub bytes_same : (a b : List ℕ) → bytes_eq a b ≡ true → a ≡ b
 bytes_same a b h = exact_bytes a b (equal_from _ (is_eq-slice_cmp a b ∙ h))
   where
     equal_from : (r : Ordering) → is_eq r ≡ true → r ≡ Equal
@@ -92,27 +93,40 @@ new_number base A e h =
 some_is : (m n : ℕ) → Some m ≡ Some n → m ≡ n
 some_is m n h = cc
 
-pub found_step : (base : List ℕ → ℕ) (A : List EventValue) (c : Counts) (e : EventValue) (n : ℕ) → IsEvent e → value_at (text e) c.numbers ≡ Some n → IsCountOf base A c
+-- ---- what is known of its text
+
+-- a known text has been taken, and no text is known that hasn't
+pub told : (base : List ℕ → ℕ) (A : List EventValue) (K : TextNumbers) (e : EventValue) (n : ℕ) → value_at (text e) K ≡ Some n → Knows base A K e → (has key_cmp A e ≡ true) × (n ≡ number base A e)
+told base A K e n found knows = by (has key_cmp A e) (sym knows ∙ found)
+  where
+    by : (b : Bool) → (if b then Some (number base A e) else None) ≡ Some n → (b ≡ true) × (n ≡ number base A e)
+    by true is = (refl, sym (some_is _ n is))
+    by false is = absurd (cc)
+
+pub is_new : (base : List ℕ → ℕ) (A : List EventValue) (K : TextNumbers) (e : EventValue) → value_at (text e) K ≡ None → Knows base A K e → has key_cmp A e ≡ false
+is_new base A K e none knows = by (has key_cmp A e) (sym knows ∙ none)
+  where
+    by : (b : Bool) → (if b then Some (number base A e) else None) ≡ None → b ≡ false
+    by true is = absurd (cc)
+    by false is = refl
+
+pub found_step : (base : List ℕ → ℕ) (A : List EventValue) (c : Counts) (K : TextNumbers) (e : EventValue) (n : ℕ) → value_at (text e) K ≡ Some n → Knows base A K e → IsCountOf base A c
     → (n ≡ number base (taken A (e ∷ [])) e) × IsCountOf base (taken A (e ∷ [])) c
-found_step base A c e n event found counts = by (has key_cmp A e) refl (sym (counts.numbers e event) ∙ found)
-  where
-    by : (b : Bool) → has key_cmp A e ≡ b → (if b then Some (number base A e) else None) ≡ Some n → (n ≡ number base (taken A (e ∷ [])) e) × IsCountOf base (taken A (e ∷ [])) c
-    by true h is =
-        let same : taken A (e ∷ []) ≡ A = ap (λ b. if b then A else A ++ e ∷ []) h in
-        (sym (some_is _ n is) ∙ ap (λ T. number base T e) (sym same), subst (λ T. IsCountOf base T c) (sym same) counts)
-    by false h is = absurd (cc)
+found_step base A c K e n found knows counts =
+    let it = told base A K e n found knows in
+    let same : taken A (e ∷ []) ≡ A = ap (λ b. if b then A else A ++ e ∷ []) it.0 in
+    (it.1 ∙ ap (λ T. number base T e) (sym same), subst (λ T. IsCountOf base T c) (sym same) counts)
 
-pub is_new : (base : List ℕ → ℕ) (A : List EventValue) (c : Counts) (e : EventValue) → IsEvent e → value_at (text e) c.numbers ≡ None → IsCountOf base A c → has key_cmp A e ≡ false
-is_new base A c e event none counts = by (has key_cmp A e) refl (sym (counts.numbers e event) ∙ none)
-  where
-    by : (b : Bool) → has key_cmp A e ≡ b → (if b then Some (number base A e) else None) ≡ None → has key_cmp A e ≡ false
-    by true h is = absurd (cc)
-    by false h is = h
+pub found_known : (base : List ℕ → ℕ) (A : List EventValue) (K : TextNumbers) (e : EventValue) (n : ℕ) → value_at (text e) K ≡ Some n → Knows base A K e → KeepsKnown base A (taken A (e ∷ [])) K K
+found_known base A K e n found knows =
+    let it = told base A K e n found knows in
+    let same : taken A (e ∷ []) ≡ A = ap (λ b. if b then A else A ++ e ∷ []) it.0 in
+    subst (λ T. KeepsKnown base A T K K) (sym same) (λ f is h. h)
 
-pub next_is : (base : List ℕ → ℕ) (A : List EventValue) (c : Counts) (e : EventValue) → IsEvent e → value_at (text e) c.numbers ≡ None → IsCountOf base A c → next c (source_of e) ≡ number base (taken A (e ∷ [])) e
-next_is base A c e event none counts = ap suc (counts.last (source_of e)) ∙ sym (new_number base A e (is_new base A c e event none counts))
+pub next_is : (base : List ℕ → ℕ) (A : List EventValue) (c : Counts) (K : TextNumbers) (e : EventValue) → value_at (text e) K ≡ None → Knows base A K e → IsCountOf base A c → next c (source_of e) ≡ number base (taken A (e ∷ [])) e
+next_is base A c K e none knows counts = ap suc (counts.last (source_of e)) ∙ sym (new_number base A e (is_new base A K e none knows))
 
-module _ (base : List ℕ → ℕ) (A : List EventValue) (c : Counts) (e : EventValue) (event : IsEvent e) (none : value_at (text e) c.numbers ≡ None) (counts : IsCountOf base A c) where
+module _ (base : List ℕ → ℕ) (A : List EventValue) (c : Counts) (K : TextNumbers) (e : EventValue) (event : IsEvent e) (none : value_at (text e) K ≡ None) (knows : Knows base A K e) (counts : IsCountOf base A c) where
   abbrev T : List EventValue
   T = taken A (e ∷ [])
 
@@ -120,7 +134,7 @@ module _ (base : List ℕ → ℕ) (A : List EventValue) (c : Counts) (e : Event
   n = next c (source_of e)
 
   lacks : has key_cmp A e ≡ false
-  lacks = is_new base A c e event none counts
+  lacks = is_new base A K e none knows
 
   in_all : (f : EventValue) → has key_cmp T f ≡ (has key_cmp A f || (is_eq (key_cmp f e) || false))
   in_all f = ap (λ l. has key_cmp l f) (grown_by A e lacks) ∙ has-append key_cmp_total A (e ∷ []) f
@@ -128,12 +142,19 @@ module _ (base : List ℕ → ℕ) (A : List EventValue) (c : Counts) (e : Event
   here : has key_cmp T e ≡ true
   here = in_all e ∙ ap₂ (λ (a b : Bool). a || b) lacks (itself key_cmp_total e [])
 
-  new_numbers : (f : EventValue) → IsEvent f → value_at (text f) (with_value (text e) n c.numbers) ≡ (if has key_cmp T f then Some (number base T f) else None)
-  new_numbers f is = by (bytes_eq (text f) (text e)) refl
+  or_none : (b : Bool) → (b || (false || false)) ≡ b
+  or_none true = refl
+  or_none false = refl
+
+  none_here : (f : EventValue) → bytes_eq (text f) (text e) ≡ false → has key_cmp T f ≡ has key_cmp A f
+  none_here f h = in_all f ∙ ap (λ (b : Bool). has key_cmp A f || (b || false)) (apart f e h) ∙ or_none (has key_cmp A f)
+
+  pub new_known : KeepsKnown base A (taken A (e ∷ [])) K (with_value (text e) (next c (source_of e)) K)
+  new_known f is before = by (bytes_eq (text f) (text e)) refl
     where
-      told : value_at (text e) (with_value (text e) n c.numbers) ≡ (if has key_cmp T e then Some (number base T e) else None)
-      told =
-          at_name (text e) n c.numbers ∙ ap (λ m. Some m) (next_is base A c e event none counts)
+      own : Knows base T (with_value (text e) n K) e
+      own =
+          at_name (text e) n K ∙ ap (λ m. Some m) (next_is base A c K e none knows counts)
           ∙ sym (ap (λ (b : Bool). if b then Some (number base T e) else None) here)
 
       alike : (b : Bool) → (if b then Some (number base A f) else None) ≡ (if b then Some (number base T f) else None) → (if has key_cmp A f then Some (number base A f) else None) ≡ (if b then Some (number base A f) else None)
@@ -144,40 +165,46 @@ module _ (base : List ℕ → ℕ) (A : List EventValue) (c : Counts) (e : Event
       stays true h = ap (λ m. Some m) (sym (number_stays base A (e ∷ []) f h))
       stays false h = refl
 
-      or_none : (b : Bool) → (b || (false || false)) ≡ b
-      or_none true = refl
-      or_none false = refl
-
-      by : (b : Bool) → bytes_eq (text f) (text e) ≡ b → value_at (text f) (with_value (text e) n c.numbers) ≡ (if has key_cmp T f then Some (number base T f) else None)
+      by : (b : Bool) → bytes_eq (text f) (text e) ≡ b → value_at (text f) (with_value (text e) n K) ≡ (if has key_cmp T f then Some (number base T f) else None)
       by true h =
           let same : f ≡ e = same_text f e is event (bytes_same (text f) (text e) h) in
-          subst (λ (g : EventValue). value_at (text g) (with_value (text e) n c.numbers) ≡ (if has key_cmp T g then Some (number base T g) else None)) (sym same) told
+          subst (λ (g : EventValue). value_at (text g) (with_value (text e) n K) ≡ (if has key_cmp T g then Some (number base T g) else None)) (sym same) own
       by false h =
-          let none_here : has key_cmp T f ≡ has key_cmp A f = in_all f ∙ ap (λ (b : Bool). has key_cmp A f || (b || false)) (apart f e h) ∙ or_none (has key_cmp A f) in
-          elsewhere (text e) n (text f) h c.numbers ∙ counts.numbers f is
-          ∙ alike (has key_cmp A f) (stays (has key_cmp A f) refl) refl (sym none_here)
+          elsewhere (text e) n (text f) h K ∙ before
+          ∙ alike (has key_cmp A f) (stays (has key_cmp A f) refl) refl (sym (none_here f h))
 
-  new_last : (s : List ℕ) → unwrap_or (value_at s (with_value (source_of e) n c.last)) c.base ≡ base s + length (of_source s T)
-  new_last s = by (bytes_eq s (source_of e)) refl
-    where
-      count : length (of_source s T) ≡ length (of_source s A) + (if is_of_source s e then 1 else 0)
-      count = ap (λ l. length (of_source s l)) (grown_by A e lacks) ∙ one_more s A e
+  module _ (d : Counts) (more : IsCounted c d (text e) (source_of e)) where
+    new_last : (s : List ℕ) → unwrap_or (value_at s d.last) d.base ≡ base s + length (of_source s T)
+    new_last s = ap₂ (λ (l : List (List ℕ × ℕ)) (b : ℕ). unwrap_or (value_at s l) b) more.last more.base ∙ by (bytes_eq s (source_of e)) refl
+      where
+        count : length (of_source s T) ≡ length (of_source s A) + (if is_of_source s e then 1 else 0)
+        count = ap (λ l. length (of_source s l)) (grown_by A e lacks) ∙ one_more s A e
 
-      by : (b : Bool) → bytes_eq s (source_of e) ≡ b → unwrap_or (value_at s (with_value (source_of e) n c.last)) c.base ≡ base s + length (of_source s T)
-      by true h =
-          let same : s ≡ source_of e = bytes_same s (source_of e) h in
-          let own : is_of_source s e ≡ true = ap (λ t. bytes_eq (source_of e) t) same ∙ itself_of e in
-          let long : length (of_source s T) ≡ length (of_source s A) + 1 = count ∙ ap (λ (b : Bool). length (of_source s A) + (if b then 1 else 0)) own in
-          let first : unwrap_or (value_at s (with_value (source_of e) n c.last)) c.base ≡ n = ap (λ t. unwrap_or (value_at t (with_value (source_of e) n c.last)) c.base) same ∙ ap (λ o. unwrap_or o c.base) (at_name (source_of e) n c.last) in
-          let was : n ≡ suc (base s + length (of_source s A)) = ap suc (counts.last (source_of e)) ∙ ap (λ t. suc (base t + length (of_source t A))) (sym same) in
-          first ∙ was ∙ omega (arith, long)
-      by false h =
-          let other : is_of_source s e ≡ false = bytes_turned s (source_of e) h in
-          let long : length (of_source s T) ≡ length (of_source s A) + 0 = count ∙ ap (λ (b : Bool). length (of_source s A) + (if b then 1 else 0)) other in
-          ap (λ o. unwrap_or o c.base) (elsewhere (source_of e) n s h c.last) ∙ counts.last s ∙ omega (arith, long)
+        by : (b : Bool) → bytes_eq s (source_of e) ≡ b → unwrap_or (value_at s (with_value (source_of e) n c.last)) c.base ≡ base s + length (of_source s T)
+        by true h =
+            let same : s ≡ source_of e = bytes_same s (source_of e) h in
+            let own : is_of_source s e ≡ true = ap (λ t. bytes_eq (source_of e) t) same ∙ itself_of e in
+            let long : length (of_source s T) ≡ length (of_source s A) + 1 = count ∙ ap (λ (b : Bool). length (of_source s A) + (if b then 1 else 0)) own in
+            let first : unwrap_or (value_at s (with_value (source_of e) n c.last)) c.base ≡ n = ap (λ t. unwrap_or (value_at t (with_value (source_of e) n c.last)) c.base) same ∙ ap (λ o. unwrap_or o c.base) (at_name (source_of e) n c.last) in
+            let was : n ≡ suc (base s + length (of_source s A)) = ap suc (counts.last (source_of e)) ∙ ap (λ t. suc (base t + length (of_source t A))) (sym same) in
+            first ∙ was ∙ omega (arith, long)
+        by false h =
+            let other : is_of_source s e ≡ false = bytes_turned s (source_of e) h in
+            let long : length (of_source s T) ≡ length (of_source s A) + 0 = count ∙ ap (λ (b : Bool). length (of_source s A) + (if b then 1 else 0)) other in
+            ap (λ o. unwrap_or o c.base) (elsewhere (source_of e) n s h c.last) ∙ counts.last s ∙ omega (arith, long)
 
-  pub new_step : IsCountOf base (taken A (e ∷ [])) (counted c (text e) (source_of e))
-  new_step = record { numbers = new_numbers; last = new_last }
+    new_seen : (f : EventValue) → has key_cmp T f ≡ true → MayHave d.seen (text f)
+    new_seen f there = by (bytes_eq (text f) (text e)) refl
+      where
+        by : (b : Bool) → bytes_eq (text f) (text e) ≡ b → MayHave d.seen (text f)
+        by true h = subst (MayHave d.seen) (sym (bytes_same (text f) (text e) h)) more.has
+        by false h = more.keeps (text f) (counts.seen f (sym (none_here f h) ∙ there))
+
+    pub new_step : IsCountOf base (taken A (e ∷ [])) d
+    new_step = record { last = new_last; seen = new_seen }
+
+pub too_many : (base : List ℕ → ℕ) (A : List EventValue) (c : Counts) (K : TextNumbers) (e : EventValue) → value_at (text e) K ≡ None → max_sequence < next c (source_of e) → IsCountOf base A c → Knows base A K e → max_sequence < number base (taken A (e ∷ [])) e
+too_many base A c K e none over counts knows = subst (λ n. max_sequence < n) (next_is base A c K e none knows counts) over
 
 -- ---- a batch
 
@@ -205,53 +232,75 @@ turn_step base A L X i n e x c at have is counts one =
     let had = have_more (number base (taken T (e ∷ []))) P X e x (have_same (number base T) (number base (taken T (e ∷ []))) P X before have) (subst (λ k. HasNumber k e x) is one) in
     (subst (λ Q. HaveNumbers (number base Q) (take (i + 1) L) (X ++ x ∷ [])) (sym all) (subst (λ Q. HaveNumbers (number base (taken T (e ∷ []))) Q (X ++ x ∷ [])) (sym more) had), subst (λ Q. IsCountOf base Q c) (sym all) counts)
 
-pub too_many : (base : List ℕ → ℕ) (A : List EventValue) (c : Counts) (e : EventValue) → IsEvent e → value_at (text e) c.numbers ≡ None → max_sequence < next c (source_of e) → IsCountOf base A c → max_sequence < number base (taken A (e ∷ [])) e
-too_many base A c e event none over counts = subst (λ n. max_sequence < n) (next_is base A c e event none counts) over
+-- one event more, with what is known
+pub known_step : (base : List ℕ → ℕ) (A L : List EventValue) (i : ℕ) (e : EventValue) (K M N : TextNumbers) → slice_get L i ≡ Some e → KeepsKnown base A (taken A (take i L)) K M → KeepsKnown base (taken A (take i L)) (taken (taken A (take i L)) (e ∷ [])) M N
+    → KeepsKnown base A (taken A (take (i + 1) L)) K N
+known_step base A L i e K M N at before after =
+    let more : take (i + 1) L ≡ take i L ++ e ∷ [] = take_next L i e at in
+    let all : taken A (take (i + 1) L) ≡ taken (taken A (take i L)) (e ∷ []) = ap (taken A) more ∙ append_new-append key_cmp_total A (take i L) (e ∷ []) in
+    subst (λ Q. KeepsKnown base A Q K N) (sym all) (λ f is h. after f is (before f is h))
+
+-- one of those that are known
+pub knows_at : {X : Type 0} (P : X → Type 0) (xs : List X) (i : ℕ) (x : X) → AllByRecursion P xs → slice_get xs i ≡ Some x → P x
+knows_at P [] i x a h = absurd (cc)
+knows_at {X} P (y ∷ xs) zero x a h = (let same : y ≡ x = cc in subst P same a.0)
+knows_at P (y ∷ xs) (suc i) x a h = knows_at P xs i x a.1 h
 
 -- ---- rows that are counted
 
-pub nothing_counted : (b : ℕ) → IsCountOfRows (λ _. b) [] (record { numbers = []; last = []; base = b })
-nothing_counted b = record {
-  events = [];
-  bare = tt;
-  once = refl;
-  numbers = tt;
-  whole = tt;
-  counts = record { numbers = λ e is. refl; last = λ s. (let e : b ≡ b + 0 = omega arith in e) };
+-- so far these rows are counted, and the texts of their events known
+pub record AreCounted (base : List ℕ → ℕ) (rows : List EventValue) (c : Counts) (K : TextNumbers) : Type 0 where
+  pub rows_are : IsCountOfRows base rows c
+  pub knows : (e : EventValue) → IsEvent e → Knows base rows_are.events K e
+
+none_counted : (b : ℕ) (c : Counts) → c.last ≡ [] → c.base ≡ b → IsCountOf (λ _. b) [] c
+none_counted b c none is = record {
+  last = λ s. ap₂ (λ (l : List (List ℕ × ℕ)) (k : ℕ). unwrap_or (value_at s l) k) none is ∙ (let e : b ≡ b + 0 = omega arith in e);
+  seen = λ e there. absurd (true≢false (sym there));
+}
+
+pub nothing_counted : (b : ℕ) (c : Counts) (K : TextNumbers) → c.last ≡ [] → c.base ≡ b → K ≡ [] → AreCounted (λ _. b) [] c K
+nothing_counted b c K none is empty = record {
+  rows_are = record { events = []; bare = tt; once = refl; numbers = tt; whole = tt; counts = none_counted b c none is };
+  knows = λ e event. ap (λ (l : TextNumbers). value_at (text e) l) empty;
 }
 
 bare_more : (A : List EventValue) (e : EventValue) → AreBare A → IsBare e → AreBare (A ++ e ∷ [])
 bare_more [] e a is = (is, tt)
 bare_more (x ∷ A) e a is = (a.0, bare_more A e a.1 is)
 
-row_step : (base : List ℕ → ℕ) (rows : List EventValue) (n : ℕ) (e x : EventValue) (c k : Counts) → IsCountOfRows base rows c → IsEvent x → IsBare e → HasNumber n e x
-    → ((b : List ℕ → ℕ) (A : List EventValue) → IsCountOf b A c → (taken A (e ∷ []) ≡ A ++ e ∷ []) × (n ≡ number b (taken A (e ∷ [])) e) × IsCountOf b (taken A (e ∷ [])) k)
-    → IsCountOfRows base (rows ++ x ∷ []) k
-row_step base rows n e x c k was event is one step =
+row_step : (base : List ℕ → ℕ) (rows : List EventValue) (n : ℕ) (e x : EventValue) (c d : Counts) (K M : TextNumbers) → AreCounted base rows c K → IsEvent x → IsBare e → HasNumber n e x
+    → ((b : List ℕ → ℕ) (A : List EventValue) → IsWholeCountOf b A c K → (taken A (e ∷ []) ≡ A ++ e ∷ []) × (n ≡ number b (taken A (e ∷ [])) e) × IsWholeCountOf b (taken A (e ∷ [])) d M)
+    → AreCounted base (rows ++ x ∷ []) d M
+row_step base rows n e x c d K M so_far event is one step =
+    let was = so_far.rows_are in
     let A = was.events in
     let T = taken A (e ∷ []) in
-    let it = step base A was.counts in
+    let it = step base A (record { counts = was.counts; knows = so_far.knows }) in
     let grown : T ≡ A ++ e ∷ [] = it.0 in
     let stays : AllByRecursion (λ a. number base A a ≡ number base T a) A = all_map (λ a. has key_cmp A a ≡ true) (λ a. number base A a ≡ number base T a) (λ a h. sym (number_stays base A (e ∷ []) a h)) A each_in in
     let had = have_more (number base T) A rows e x (have_same (number base A) (number base T) A rows stays was.numbers) (subst (λ m. HasNumber m e x) it.1 one) in
     record {
-      events = T;
-      bare = subst AreBare (sym grown) (bare_more A e was.bare is);
-      once = stays_once key_cmp_total A (e ∷ []) was.once;
-      numbers = subst (λ Q. HaveNumbers (number base T) Q (rows ++ x ∷ [])) (sym grown) had;
-      whole = all_more rows x was.whole event;
-      counts = it.2;
+      rows_are = record {
+        events = T;
+        bare = subst AreBare (sym grown) (bare_more A e was.bare is);
+        once = stays_once key_cmp_total A (e ∷ []) was.once;
+        numbers = subst (λ Q. HaveNumbers (number base T) Q (rows ++ x ∷ [])) (sym grown) had;
+        whole = all_more rows x was.whole event;
+        counts = it.2.counts;
+      };
+      knows = it.2.knows;
     }
   where
-    each_in : AllByRecursion (λ a. has key_cmp was.events a ≡ true) was.events
-    each_in = subst (λ B. AllByRecursion (λ a. has key_cmp B a ≡ true) was.events) was.once (all_there key_cmp_total [] was.events)
+    each_in : AllByRecursion (λ a. has key_cmp so_far.rows_are.events a ≡ true) so_far.rows_are.events
+    each_in = subst (λ B. AllByRecursion (λ a. has key_cmp B a ≡ true) so_far.rows_are.events) so_far.rows_are.once (all_there key_cmp_total [] so_far.rows_are.events)
 
 -- the row that is taken from the front stands behind those before
-pub next_row : (base : List ℕ → ℕ) (done rest rows all : List EventValue) (n : ℕ) (e x : EventValue) (c k : Counts) → rows ≡ x ∷ rest → done ++ rows ≡ all → IsCountOfRows base done c → IsEvent x → IsBare e → HasNumber n e x
-    → ((b : List ℕ → ℕ) (A : List EventValue) → IsCountOf b A c → (taken A (e ∷ []) ≡ A ++ e ∷ []) × (n ≡ number b (taken A (e ∷ [])) e) × IsCountOf b (taken A (e ∷ [])) k)
-    → (so_far : List EventValue) × (so_far ++ rest ≡ all) × IsCountOfRows base so_far k
-next_row base done rest rows all n e x c k is h was event bare one step =
-    (done ++ x ∷ [], shift done ∙ ap (λ l. done ++ l) (sym is) ∙ h, row_step base done n e x c k was event bare one step)
+pub next_row : (base : List ℕ → ℕ) (done rest rows all : List EventValue) (n : ℕ) (e x : EventValue) (c d : Counts) (K M : TextNumbers) → rows ≡ x ∷ rest → done ++ rows ≡ all → AreCounted base done c K → IsEvent x → IsBare e → HasNumber n e x
+    → ((b : List ℕ → ℕ) (A : List EventValue) → IsWholeCountOf b A c K → (taken A (e ∷ []) ≡ A ++ e ∷ []) × (n ≡ number b (taken A (e ∷ [])) e) × IsWholeCountOf b (taken A (e ∷ [])) d M)
+    → (so_far : List EventValue) × (so_far ++ rest ≡ all) × AreCounted base so_far d M
+next_row base done rest rows all n e x c d K M is h was event bare one step =
+    (done ++ x ∷ [], shift done ∙ ap (λ l. done ++ l) (sym is) ∙ h, row_step base done n e x c d K M was event bare one step)
   where
     shift : (d : List EventValue) → (d ++ x ∷ []) ++ rest ≡ d ++ x ∷ rest
     shift [] = refl

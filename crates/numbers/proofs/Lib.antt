@@ -11,3 +11,5 @@ pub mod CountLemmas
 mod AsideLemmas
 mod BareLemmas
 mod UncountedLemmas
+mod FilterLemmas
+pub mod KnownLemmas

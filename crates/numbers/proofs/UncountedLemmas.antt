@@ -1,28 +1,19 @@
 -- Rows that no numberer leaves.
-use Rattle.std.proofs.Common.{◌≡◌, ◌≢◌, ◌⊎◌, inl, inr, ℕ, ◌+◌, List, [], ◌∷◌, ◌++◌, append_assoc, length, true, false, Some, None, Bool, if◌then◌else◌, refl, sym, ap, ap₂, subst, ◌∙◌, true≢false}
-use Rattle.attributes.specs.Event.{EventValue, source_of, text}
+use Rattle.std.proofs.Common.{◌≡◌, ◌≢◌, ◌⊎◌, inl, inr, ℕ, ◌+◌, List, [], ◌∷◌, ◌++◌, append_assoc, length, true, false, Some, refl, sym, ap, ap₂, subst, ◌∙◌, true≢false}
+use Rattle.attributes.specs.Event.{EventValue, source_of}
 use Rattle.attributes.specs.Fault.{IsEvent}
-use Rattle.attributes.specs.Members.{value_at}
 use Rattle.attributes.specs.Sequence.{number_of}
 use Rattle.inbox.specs.KeyOrder.{key_cmp}
 use Rattle.inbox.specs.Ordered.{append_new, has}
 use Rattle.inbox.proofs.OrderLemmas.{key_cmp_total}
 use Rattle.inbox.proofs.SetLemmas.{append_new-append}
-use Rattle.numbers.specs.Counts.{Counts, IsCountOf, IsCountOfRows}
+use Rattle.numbers.specs.Counts.{Counts, IsWholeCountOf, TextNumbers}
 use Rattle.numbers.specs.Numbered.{AreBare, HasNumber, HaveNumbers, IsBare}
 use Rattle.numbers.specs.Numberer.{IsEachOnce, number, of_source, taken, up_to}
-use Rattle.numbers.proofs.CountLemmas.{grown_by}
+use Rattle.numbers.proofs.CountLemmas.{AreCounted, grown_by}
 use Rattle.numbers.proofs.ListLemmas.{distinct_from, itself, there}
 use Rattle.numbers.proofs.NumberLemmas.{up_to_stays}
 use Rattle.numbers.proofs.NumberedLemmas.{numbered_events}
-
--- a text that has a number has been taken
-pub is_old : (base : List ℕ → ℕ) (A : List EventValue) (c : Counts) (e : EventValue) (n : ℕ) → IsEvent e → value_at (text e) c.numbers ≡ Some n → IsCountOf base A c → has key_cmp A e ≡ true
-is_old base A c e n event found counts = by (has key_cmp A e) refl (sym (counts.numbers e event) ∙ found)
-  where
-    by : (b : Bool) → has key_cmp A e ≡ b → (if b then Some (number base A e) else None) ≡ Some n → has key_cmp A e ≡ true
-    by true h is = h
-    by false h is = absurd (cc)
 
 -- one event with its number is that of one without
 same_bare : (e f x : EventValue) (m n : ℕ) → IsBare e → IsBare f → HasNumber m e x → HasNumber n f x → e ≡ f
@@ -62,10 +53,11 @@ bare_split [] R e a = (tt, a.0)
 bare_split (x ∷ P) R e a = let r = bare_split P R e a.1 in ((a.0, r.0), r.1)
 
 -- where the next row isn't that of an event with its number, no numberer leaves the rows
-pub no_numberer : (base : List ℕ → ℕ) (done rest rows all : List EventValue) (x : EventValue) (c : Counts) → rows ≡ x ∷ rest → done ++ rows ≡ all → IsCountOfRows base done c
-    → ((e : EventValue) (n : ℕ) → IsBare e → HasNumber n e x → (b : List ℕ → ℕ) (A : List EventValue) → IsCountOf b A c → (has key_cmp A e ≡ true) ⊎ (n ≢ number b (taken A (e ∷ [])) e))
+pub no_numberer : (base : List ℕ → ℕ) (done rest rows all : List EventValue) (x : EventValue) (c : Counts) (K : TextNumbers) → rows ≡ x ∷ rest → done ++ rows ≡ all → AreCounted base done c K
+    → ((e : EventValue) (n : ℕ) → IsBare e → HasNumber n e x → (b : List ℕ → ℕ) (A : List EventValue) → IsWholeCountOf b A c K → (has key_cmp A e ≡ true) ⊎ (n ≢ number b (taken A (e ∷ [])) e))
     → (events : List EventValue) → AreBare events → IsEachOnce events → HaveNumbers (number base events) events all → ⊥
-no_numberer base done rest rows all x c is h was refused events bare once have =
+no_numberer base done rest rows all x c K is h so_far refused events bare once have =
+    let was = so_far.rows_are in
     let m = number base events in
     let s = rows_split m events done rest x (subst (HaveNumbers m events) (sym h ∙ ap (λ l. done ++ l) is) have) in
     let e = s.1 in
@@ -82,7 +74,7 @@ no_numberer base done rest rows all x c is h was refused events bare once have =
     let stands : has key_cmp T e ≡ true = there key_cmp_total A (e ∷ []) e (itself key_cmp_total e []) in
     let its : m e ≡ number base T e =
     ap (λ l. base (source_of e) + length (of_source (source_of e) l)) (ap (up_to e) more ∙ up_to_stays T R e stands) in
-    by e A lacks its (refused e (m e) own.1 s.5 base A was.counts)
+    by e A lacks its (refused e (m e) own.1 s.5 base A (record { counts = was.counts; knows = so_far.knows }))
   where
     by : (e : EventValue) (A : List EventValue) → has key_cmp A e ≡ false → number base events e ≡ number base (taken A (e ∷ [])) e
         → (has key_cmp A e ≡ true) ⊎ (number base events e ≢ number base (taken A (e ∷ [])) e) → ⊥

@@ -1,22 +1,25 @@
-//! What is counted of events: the number of each text, and the last one of each source.
+//! What is counted of events: the last number of each source, and which texts may have a number.
 
-ghost use Rattle.std.specs.Prelude.{◌≡◌, ◌≤◌, ◌<◌, [], MatchOption, OnOk, string_bytes, unwrap_or};
-ghost use Rattle.std.specs.Option.{option_copied};
-ghost use Rattle.attributes.specs.Members.{named, value_at, with_value};
+ghost use Rattle.std.specs.Prelude.{◌≡◌, ◌≤◌, ◌<◌, ◌↔◌, [], IfOk, IsTrue, MatchOption, OnOk, unwrap_or};
+ghost use Rattle.attributes.specs.Members.{value_at};
 ghost use Rattle.attributes.specs.Sequence.{max_sequence};
-ghost use Rattle.numbers.specs.Counts.{counted, next};
+ghost use Rattle.numbers.specs.Counts.{IsCounted, next};
+ghost use Rattle.numbers.specs.Filter.{MayHave};
 
+use crate::filter::Filter;
+use crate::known::{at, put};
 use attributes::{MAX_SEQUENCE, Sequence};
 use std::alloc::{AllocError, Global};
 use std::collections::BTreeMap;
 use std::marker::Model;
 
-/// The number of each text, the last one of each source, and the number behind which a source
-/// begins that has none yet. Memory in proportion to the texts.
+/// The last number of each source, the number behind which a source begins that has none yet, and a
+/// filter of the texts that have numbers. Memory in proportion to the sources, and 1 MiB to
+/// 16 MiB.
 #[derive(Drop)]
 pub struct Counted {
-    numbers: BTreeMap<String, Sequence>,
     last: BTreeMap<String, Sequence>,
+    seen: Filter,
     base: u64,
     alloc: Global,
 }
@@ -27,53 +30,29 @@ impl Model for Counted {
 
     ghost Value = { Counts };
 
-    ghost view = { λ c. record {
-      numbers = named c.numbers.entries;
-      last = named c.last.entries;
-      base = c.base;
-    } };
-}
-
-/// The number that a numberer has for a name (a text or source).
-fn at(numbers: &BTreeMap<String, Sequence>, name: &str) -> Option<Sequence>
-    ensures { result ≡ value_at name.now (named numbers.now.entries) }
-{
-    numbers.get(name).copied()
-}
-
-/// Puts the numberer's number at a name, in place of the one that is there.
-fn put(
-    alloc: Global,
-    numbers: &mut BTreeMap<String, Sequence>,
-    name: &str,
-    number: Sequence,
-) -> Result<(), AllocError>
-    ensures { OnOk result (named numbers.new.entries
-        ≡ with_value name.now number (named numbers.old.entries)) }
-{
-    let name = String::from_str(alloc, name)?;
-    numbers.insert(name, number)?;
-    Ok(())
+    ghost view = { λ c. record { last = named c.last.entries; base = c.base; seen = c.seen } };
 }
 
 impl Counted {
-    /// A numberer's counts of no events. They take no memory.
-    pub fn empty(alloc: Global, base: u64) -> Counted
-        ensures { result ≡ record { numbers = []; last = []; base = base } }
+    /// A numberer's counts of no events, for about so many texts: 4 bytes are taken for each, but
+    /// 1 MiB at least and 16 MiB at most.
+    pub fn empty(alloc: Global, base: u64, texts: u64) -> Result<Counted, AllocError>
+        ensures { IfOk result (λ c. (c.last ≡ []) × (c.base ≡ base)) }
     {
-        Counted {
-            numbers: BTreeMap::new(alloc),
+        Ok(Counted {
             last: BTreeMap::new(alloc),
+            seen: Filter::sized(alloc, texts)?,
             base,
             alloc,
-        }
+        })
     }
 
-    /// The number that the numberer gave this text, if any. Time logarithmic in the texts.
-    pub fn number_of(&self, text: &str) -> Option<Sequence>
-        ensures { result ≡ value_at text.now self.now.numbers }
+    /// Whether the text may have a number: each that has one may, and few others. The time is that
+    /// of a hash of its bytes.
+    pub fn may_have(&self, text: &str) -> bool
+        ensures { IsTrue result ↔ MayHave self.now.seen text.now }
     {
-        at(&self.numbers, text)
+        self.seen.may_have(text)
     }
 
     /// The last number that the source was given, or else that behind which it begins.
@@ -102,9 +81,9 @@ impl Counted {
     /// Where memory is refused half of it may be counted.
     pub fn add(&mut self, text: &str, source: &str, number: Sequence) -> Result<(), AllocError>
         requires { number ≡ next self.old source.now }
-        ensures { OnOk result (self.new ≡ counted self.old text.now source.now) }
+        ensures { OnOk result (IsCounted self.old self.new text.now source.now) }
     {
-        put(self.alloc, &mut self.numbers, text, number)?;
+        self.seen.add(text);
         put(self.alloc, &mut self.last, source, number)
     }
 }

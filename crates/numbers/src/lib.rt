@@ -8,6 +8,8 @@ mod count;
 mod counted;
 mod event;
 mod fault;
+mod filter;
+mod known;
 pub mod laws;
 mod turn;
 
@@ -17,4 +19,5 @@ pub use count::count_all;
 pub use counted::Counted;
 pub use event::{bare, numbered};
 pub use fault::NumberFault;
+pub use known::{Known, learn};
 pub use turn::number_all;

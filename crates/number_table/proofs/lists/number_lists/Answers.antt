@@ -3,10 +3,11 @@ use Rattle.std.specs.List.{AllByRecursion}
 use Rattle.attributes.specs.Fault.{IsEvent}
 use Rattle.inbox.proofs.ReadLemmas.{take_next}
 use Rattle.inbox_table.specs.Calls.{joined}
-use Rattle.numbers.specs.Counts.{IsCountOf}
+use Rattle.numbers.specs.Counts.{IsCountOf, KeepsKnown, Knows}
 use Rattle.numbers.specs.Numberer.{taken}
 use Rattle.number_table.specs.Each.{AnswersEach, AreNumberedEach}
 use Rattle.number_table.proofs.EachLemmas.{all_more, bare_at, each_more, numbered_more, taken_more}
+use Rattle.number_table.proofs.LookLemmas.{joined_at, keeps_each}
 use Rattle.number_table.proofs.lists.number_lists.Goals as goal
 
 pub number_all-requires : goal.number_all-requires
@@ -23,10 +24,15 @@ loop-i-preserved c =
       subst (AllByRecursion (AllByRecursion IsEvent)) (sym c.in_ok-push.ensures.ok) (all_more X M c.loop-i.invariant.0 c.in_ok-batch.ensures.events),
       (let e : length c.push.new.self ≡ i + 1 = ap length c.in_ok-push.ensures.ok ∙ length-append X (M ∷ []) ∙ ap (λ n. n + 1) c.loop-i.invariant.1 in e),
       subst (λ Y. AreNumberedEach (take (i + 1) lists) Y) (sym c.in_ok-push.ensures.ok) (subst (λ K. AreNumberedEach K (X ++ M ∷ [])) (sym more) (numbered_more (take i lists) X L M c.loop-i.invariant.2 c.in_ok-batch.ensures.each)),
-      λ base A h.
-          let was = c.loop-i.invariant.3 base A h in
-          let got = c.in_ok-batch.ensures.numbers base (taken A (joined (take i lists))) was.1 in (
+      λ base A h each.
+          let was = c.loop-i.invariant.3 base A h each in
+          let T = taken A (joined (take i lists)) in
+          let its = keeps_each base A T L c.args.known.now c.loop-i.known was.2 (bare_at lists i L c.requires c.at.ensures) (joined_at (Knows base A c.args.known.now) lists i L each c.at.ensures) in
+          let got = c.in_ok-batch.ensures.numbers base T was.1 its in
+          let then = c.in_ok-batch.ensures.known base T was.1 its in
+          let all : taken A (joined (take (i + 1) lists)) ≡ taken T L = ap (λ K. taken A (joined K)) more ∙ taken_more A (take i lists) L in (
             subst (λ Y. AnswersEach base A (take (i + 1) lists) Y) (sym c.in_ok-push.ensures.ok) (subst (λ K. AnswersEach base A K (X ++ M ∷ [])) (sym more) (each_more base A (take i lists) X L M was.0 got.0)),
-            subst (λ B. IsCountOf base B c.number_all.new.counted) (sym (ap (λ K. taken A (joined K)) more ∙ taken_more A (take i lists) L)) got.1,
+            subst (λ B. IsCountOf base B c.number_all.new.counted) (sym all) got.1,
+            subst (λ B. KeepsKnown base A B c.args.known.now c.number_all.new.known) (sym all) (λ e is g. then e is (was.2 e is g)),
           ),
     )

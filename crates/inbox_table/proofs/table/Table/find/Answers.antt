@@ -1,4 +1,4 @@
-use Rattle.std.proofs.Common.{◌∙◌, ap, arith, subst, sym}
+use Rattle.std.proofs.Common.{◌∙◌, ap, arith, subst, sym, IsTrue}
 use Rattle.sqlite.specs.Effect.{Database}
 use Rattle.sqlite.specs.Held.{state}
 use Rattle.sqlite.specs.State.{HasCleanDisk}
@@ -17,3 +17,7 @@ returns-clause-effect g c clean =
     subst (λ (k : KeptTable _). ReadEffect (events_named c.args.source.now c.args.id.now) k.rows (state g.S.Store k.conn) new c.find_named.result) c.self.view_is
     (read_found _ old new c.self.inside.rows c.find_named.result (c.find_named.ensures.tells clean) (c.find_named.ensures.foreign clean) (λ still. c.self.invariant was_clean (c.find_named.ensures.same.was_open clean still)) (λ still. (c.find_named.ensures.same.same clean still).0) (c.find_named.ensures.open clean)
     settled)
+
+pub returns-clause-was_open : goal.returns-clause-was_open
+returns-clause-was_open g c clean still =
+    subst (λ (k : KeptTable _). IsTrue (state g.S.Store k.conn).is_open) c.self.view_is (c.find_named.ensures.same.was_open clean still)

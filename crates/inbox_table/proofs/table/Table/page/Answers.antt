@@ -24,3 +24,7 @@ returns-clause-effect g c clean =
     subst (λ (k : KeptTable _). ReadEffect (events_after c.args.after c.args.count) k.rows (state g.S.Store k.conn) new c.find_after.result) c.self.view_is
     (read_paged most c.args.after c.args.count c.min-place.result c.min-limit.result old new c.self.inside.rows c.find_after.result low near far few many (c.find_after.ensures.tells clean) (c.find_after.ensures.foreign clean) stands (λ still. (c.find_after.ensures.same.same clean still).0) (c.find_after.ensures.open clean)
     settled)
+
+pub returns-clause-was_open : goal.returns-clause-was_open
+returns-clause-was_open g c clean still =
+    subst (λ (k : KeptTable _). IsTrue (state g.S.Store k.conn).is_open) c.self.view_is (c.find_after.ensures.same.was_open clean still)

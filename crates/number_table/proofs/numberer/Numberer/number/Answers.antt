@@ -1,55 +1,104 @@
-use Rattle.std.proofs.Common.{◌≡◌, ◌∙◌, IfSome, Some, sym, subst}
+use Rattle.std.proofs.Common.{◌≡◌, ◌∙◌, IsTrue, Option, Some, sym, subst}
+use Rattle.std.proofs.lemmas.Result.{err_from_is_err_and}
+use Rattle.sqlite.specs.Effect.{Database}
 use Rattle.sqlite.specs.Held.{state}
-use Rattle.sqlite.proofs.StateLemmas.{survives_weaker}
-use Rattle.numbers.specs.Counts.{IsCountOf}
-use Rattle.number_table.specs.Calls.{StandsNumbered, from}
-use Rattle.number_table.proofs.StandLemmas.{kept, refused}
+use Rattle.sqlite.specs.State.{HasCleanDisk}
+use Rattle.sqlite.proofs.StateLemmas.{survives_then, survives_weaker}
+use Rattle.inbox_table.specs.Calls.{MayTake}
+use Rattle.numbers.specs.Counts.{Counts}
+use Rattle.number_table.specs.Calls.{StandsNumbered}
+use Rattle.number_table.proofs.LookLemmas.{stands_still}
+use Rattle.number_table.proofs.StandLemmas.{kept, refused, given_up, was_clean}
 use Rattle.number_table.proofs.numberer.Numberer.number.Goals as goal
+
+-- the table refused the look-ups
+pub returns-in_err-batch-clause-effect : goal.returns-in_err-batch-clause-effect
+returns-in_err-batch-clause-effect g c =
+    let old = state g.S.Store c.args.self.now.table.conn in
+    let new = state g.S.Store c.answer_all.new.table.conn in
+    rw (err_from_is_err_and c.from_residual.result c.from_residual.ensures.1).1 (record {
+      numbers = λ clean events rows was. tt;
+      refused = λ events rows was. subst (StandsNumbered c.args.self.now.base events rows new) (sym c.take.ensures.after) (given_up c.args.self.now.base events rows new c.args.self.now.counted (stands_still c.args.self.now.base events rows old new c.args.self.now.counted c.answer_all.ensures.looks was));
+    })
+
+pub returns-in_err-batch-clause-leaves : goal.returns-in_err-batch-clause-leaves
+returns-in_err-batch-clause-leaves g c clean = rw (err_from_is_err_and c.from_residual.result c.from_residual.ensures.1).1 (record { stays_open = tt; settled = tt; same = λ still. c.answer_all.ensures.looks.same clean still })
+
+pub returns-in_err-batch-clause-crash : goal.returns-in_err-batch-clause-crash
+returns-in_err-batch-clause-crash g c =
+    let old = state g.S.Store c.args.self.now.table.conn in
+    let new = state g.S.Store c.answer_all.new.table.conn in
+    survives_weaker old new _ _ (λ clean trees none. absurd none) c.answer_all.ensures.looks.survives
 
 pub returns-in-Ok-clause-effect : goal.returns-in-Ok-clause-effect
 returns-in-Ok-clause-effect g c =
     let old = state g.S.Store c.args.self.now.table.conn in
+    let mid = state g.S.Store c.answer_all.new.table.conn in
     let new = state g.S.Store c.keep.new.self.conn in
     let base = c.args.self.now.base in
-    let L = c.args.events.now in
     let has : c.args.self.now.counted ≡ Some c.in-Some-take.counted = sym c.take.ensures.value ∙ c.in-Some-take.is in
     record {
-      numbers = λ events rows was.
+      numbers = λ clean events rows was.
           let w = subst (StandsNumbered base events rows old) has was in
-          let it = c.in_ok-batch.ensures.numbers (from base) events w.counts in
-          (it.0, kept base L events rows c.in_ok-batch.batch old new c.in-Some-take.counted c.number_all.new.counted _ _ w c.in_default.ensures.bare c.in_ok-batch.ensures.events it.0 it.1 c.keep.ensures.crash c.in-Ok.ensures.effect);
+          let it = c.in_ok-batch.ensures.numbers (was_clean mid new _ c.keep.ensures.crash clean) base events rows w in
+          let then = stands_still base events rows old mid (Some c.in-Some-take.counted) c.answer_all.ensures.looks w in
+          (it.0, kept base c.args.events.now events rows c.in_ok-batch.batch mid new c.in-Some-take.counted c.answer_all.new.counted _ _ then c.in_default.ensures.bare c.in_ok-batch.ensures.events it.0 it.1 c.keep.ensures.crash c.in-Ok.ensures.effect);
       refused = λ events rows was. tt;
     }
 
 pub returns-in-Err-clause-effect : goal.returns-in-Err-clause-effect
 returns-in-Err-clause-effect g c =
     let old = state g.S.Store c.args.self.now.table.conn in
+    let mid = state g.S.Store c.answer_all.new.table.conn in
     let new = state g.S.Store c.keep.new.self.conn in
+    let base = c.args.self.now.base in
+    let counted = c.args.self.now.counted in
     record {
-      numbers = λ events rows was. tt;
-      refused = λ events rows was. subst (StandsNumbered c.args.self.now.base events rows new) (sym c.take.ensures.after) (refused c.args.self.now.base events rows c.in_ok-batch.batch old new c.args.self.now.counted _ _ was c.keep.ensures.crash c.in-Err.ensures.effect);
+      numbers = λ clean events rows was. tt;
+      refused = λ events rows was. subst (StandsNumbered base events rows new) (sym c.take.ensures.after) (refused base events rows c.in_ok-batch.batch mid new counted _ _ (stands_still base events rows old mid counted c.answer_all.ensures.looks was) c.keep.ensures.crash c.in-Err.ensures.effect);
+    }
+
+pub returns-in-Err-clause-leaves : goal.returns-in-Err-clause-leaves
+returns-in-Err-clause-leaves g c clean =
+    let mid = state g.S.Store c.answer_all.new.table.conn in
+    let new = state g.S.Store c.keep.new.self.conn in
+    let effect = c.in-Err.ensures.effect clean in
+    record {
+      stays_open = tt;
+      settled = tt;
+      same = λ still. effect.same still ∙ c.answer_all.ensures.looks.same (was_clean mid new _ c.keep.ensures.crash clean) (effect.was_open still);
     }
 
 pub returns-in-Ok-clause-crash : goal.returns-in-Ok-clause-crash
 returns-in-Ok-clause-crash g c =
     let old = state g.S.Store c.args.self.now.table.conn in
+    let mid = state g.S.Store c.answer_all.new.table.conn in
     let new = state g.S.Store c.keep.new.self.conn in
     let base = c.args.self.now.base in
     let has : c.args.self.now.counted ≡ Some c.in-Some-take.counted = sym c.take.ensures.value ∙ c.in-Some-take.is in
-    survives_weaker old new _ _ (λ clean trees may is_open. record {
+    survives_then old mid new _ _ _ (λ _ db none. absurd none)
+    (λ clean trees may still.
+    let before : HasCleanDisk mid = was_clean mid new _ c.keep.ensures.crash clean in
+    let open_then : IsTrue mid.is_open = c.in_ok-batch.ensures.open before still in
+    record {
       answers = c.in_ok-batch.batch;
-      numbers = λ events h. (c.in_ok-batch.ensures.numbers (from base) events (subst (λ o. IfSome o (IsCountOf (from base) events)) has h)).0;
-      takes = may is_open;
-    }) c.keep.ensures.crash
+      numbers = λ events rows was. (c.in_ok-batch.ensures.numbers before base events rows (subst (StandsNumbered base events rows old) has was)).0;
+      takes = subst (λ (db : Database). MayTake c.in_ok-batch.batch db trees) (c.answer_all.ensures.looks.same before open_then) (may open_then);
+    }) c.answer_all.ensures.looks.survives c.keep.ensures.crash
 
 pub returns-in-Err-clause-crash : goal.returns-in-Err-clause-crash
 returns-in-Err-clause-crash g c =
     let old = state g.S.Store c.args.self.now.table.conn in
+    let mid = state g.S.Store c.answer_all.new.table.conn in
     let new = state g.S.Store c.keep.new.self.conn in
     let base = c.args.self.now.base in
     let has : c.args.self.now.counted ≡ Some c.in-Some-take.counted = sym c.take.ensures.value ∙ c.in-Some-take.is in
-    survives_weaker old new _ _ (λ clean trees may is_open. record {
+    survives_then old mid new _ _ _ (λ _ db none. absurd none)
+    (λ clean trees may still.
+    let before : HasCleanDisk mid = was_clean mid new _ c.keep.ensures.crash clean in
+    let open_then : IsTrue mid.is_open = c.in_ok-batch.ensures.open before still in
+    record {
       answers = c.in_ok-batch.batch;
-      numbers = λ events h. (c.in_ok-batch.ensures.numbers (from base) events (subst (λ o. IfSome o (IsCountOf (from base) events)) has h)).0;
-      takes = may is_open;
-    }) c.keep.ensures.crash
+      numbers = λ events rows was. (c.in_ok-batch.ensures.numbers before base events rows (subst (StandsNumbered base events rows old) has was)).0;
+      takes = subst (λ (db : Database). MayTake c.in_ok-batch.batch db trees) (c.answer_all.ensures.looks.same before open_then) (may open_then);
+    }) c.answer_all.ensures.looks.survives c.keep.ensures.crash

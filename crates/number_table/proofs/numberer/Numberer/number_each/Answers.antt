@@ -1,53 +1,105 @@
-use Rattle.std.proofs.Common.{◌≡◌, ◌∙◌, IfSome, Some, sym, subst}
+use Rattle.std.proofs.Common.{◌≡◌, ◌∙◌, IsTrue, Option, Some, sym, subst}
+use Rattle.std.proofs.lemmas.Result.{err_from_is_err_and}
+use Rattle.sqlite.specs.Effect.{Database}
 use Rattle.sqlite.specs.Held.{state}
-use Rattle.sqlite.proofs.StateLemmas.{survives_weaker}
-use Rattle.numbers.specs.Counts.{IsCountOf}
-use Rattle.number_table.specs.Calls.{StandsNumbered, from}
+use Rattle.sqlite.specs.State.{HasCleanDisk}
+use Rattle.sqlite.proofs.StateLemmas.{survives_then, survives_weaker}
+use Rattle.inbox_table.specs.Calls.{MayTake, joined}
+use Rattle.numbers.specs.Counts.{Counts}
+use Rattle.number_table.specs.Calls.{StandsNumbered}
 use Rattle.number_table.proofs.EachLemmas.{kept_each, refused_each}
+use Rattle.number_table.proofs.LookLemmas.{stands_still}
+use Rattle.number_table.proofs.StandLemmas.{given_up, was_clean}
 use Rattle.number_table.proofs.numberer.Numberer.number_each.Goals as goal
+
+-- the table refused the look-ups
+pub returns-in_err-answers-clause-effect : goal.returns-in_err-answers-clause-effect
+returns-in_err-answers-clause-effect g c =
+    let old = state g.S.Store c.args.self.now.table.conn in
+    let new = state g.S.Store c.answer_each.new.table.conn in
+    rw (err_from_is_err_and c.from_residual.result c.from_residual.ensures.1).1 (record {
+      numbers = λ clean events rows was. tt;
+      refused = λ events rows was. subst (StandsNumbered c.args.self.now.base events rows new) (sym c.take.ensures.after) (given_up c.args.self.now.base events rows new c.args.self.now.counted (stands_still c.args.self.now.base events rows old new c.args.self.now.counted c.answer_each.ensures.looks was));
+    })
+
+pub returns-in_err-answers-clause-leaves : goal.returns-in_err-answers-clause-leaves
+returns-in_err-answers-clause-leaves g c clean = rw (err_from_is_err_and c.from_residual.result c.from_residual.ensures.1).1 (record { stays_open = tt; settled = tt; same = λ still. c.answer_each.ensures.looks.same clean still })
+
+pub returns-in_err-answers-clause-crash : goal.returns-in_err-answers-clause-crash
+returns-in_err-answers-clause-crash g c =
+    let old = state g.S.Store c.args.self.now.table.conn in
+    let new = state g.S.Store c.answer_each.new.table.conn in
+    survives_weaker old new _ _ (λ clean trees none. absurd none) c.answer_each.ensures.looks.survives
 
 pub returns-in-Ok-clause-effect : goal.returns-in-Ok-clause-effect
 returns-in-Ok-clause-effect g c =
     let old = state g.S.Store c.args.self.now.table.conn in
+    let mid = state g.S.Store c.answer_each.new.table.conn in
     let new = state g.S.Store c.keep_each.new.self.conn in
     let base = c.args.self.now.base in
-    let lists = c.args.lists.now in
     let has : c.args.self.now.counted ≡ Some c.in-Some.counted = sym c.take.ensures.value ∙ c.in-Some.is in
     record {
-      numbers = λ events rows was.
+      numbers = λ clean events rows was.
           let w = subst (StandsNumbered base events rows old) has was in
-          let it = c.in_ok-answers.ensures.numbers (from base) events w.counts in
-          (it.0, kept_each base lists events rows c.in_ok-answers.answers old new c.in-Some.counted c.number_lists.new.counted _ _ w c.requires c.in_ok-answers.ensures.events it.0 it.1 c.keep_each.ensures.crash c.in-Ok.ensures.effect);
+          let it = c.in_ok-answers.ensures.numbers (was_clean mid new _ c.keep_each.ensures.crash clean) base events rows w in
+          let then = stands_still base events rows old mid (Some c.in-Some.counted) c.answer_each.ensures.looks w in
+          (it.0, kept_each base c.args.lists.now events rows c.in_ok-answers.answers mid new c.in-Some.counted c.answer_each.new.counted _ _ then c.requires c.in_ok-answers.ensures.events it.0 it.1 c.keep_each.ensures.crash c.in-Ok.ensures.effect);
       refused = λ events rows was. tt;
     }
 
 pub returns-in-Err-clause-effect : goal.returns-in-Err-clause-effect
 returns-in-Err-clause-effect g c =
     let old = state g.S.Store c.args.self.now.table.conn in
+    let mid = state g.S.Store c.answer_each.new.table.conn in
     let new = state g.S.Store c.keep_each.new.self.conn in
+    let base = c.args.self.now.base in
+    let counted = c.args.self.now.counted in
     record {
-      numbers = λ events rows was. tt;
-      refused = λ events rows was. subst (StandsNumbered c.args.self.now.base events rows new) (sym c.take.ensures.after) (refused_each c.args.self.now.base events rows c.in_ok-answers.answers old new c.args.self.now.counted _ _ was c.keep_each.ensures.crash c.in-Err.ensures.effect);
+      numbers = λ clean events rows was. tt;
+      refused = λ events rows was. subst (StandsNumbered base events rows new) (sym c.take.ensures.after) (refused_each base events rows c.in_ok-answers.answers mid new counted _ _ (stands_still base events rows old mid counted c.answer_each.ensures.looks was) c.keep_each.ensures.crash c.in-Err.ensures.effect);
+    }
+
+pub returns-in-Err-clause-leaves : goal.returns-in-Err-clause-leaves
+returns-in-Err-clause-leaves g c clean =
+    let mid = state g.S.Store c.answer_each.new.table.conn in
+    let new = state g.S.Store c.keep_each.new.self.conn in
+    let effect = c.in-Err.ensures.effect clean in
+    record {
+      stays_open = tt;
+      settled = tt;
+      same = λ still. effect.same still ∙ c.answer_each.ensures.looks.same (was_clean mid new _ c.keep_each.ensures.crash clean) (effect.was_open still);
     }
 
 pub returns-in-Ok-clause-crash : goal.returns-in-Ok-clause-crash
 returns-in-Ok-clause-crash g c =
     let old = state g.S.Store c.args.self.now.table.conn in
+    let mid = state g.S.Store c.answer_each.new.table.conn in
     let new = state g.S.Store c.keep_each.new.self.conn in
+    let base = c.args.self.now.base in
     let has : c.args.self.now.counted ≡ Some c.in-Some.counted = sym c.take.ensures.value ∙ c.in-Some.is in
-    survives_weaker old new _ _ (λ clean trees may is_open. record {
+    survives_then old mid new _ _ _ (λ _ db none. absurd none)
+    (λ clean trees may still.
+    let before : HasCleanDisk mid = was_clean mid new _ c.keep_each.ensures.crash clean in
+    let open_then : IsTrue mid.is_open = c.in_ok-answers.ensures.open before still in
+    record {
       answers = c.in_ok-answers.answers;
-      numbers = λ events h. (c.in_ok-answers.ensures.numbers (from c.args.self.now.base) events (subst (λ o. IfSome o (IsCountOf (from c.args.self.now.base) events)) has h)).0;
-      takes = may is_open;
-    }) c.keep_each.ensures.crash
+      numbers = λ events rows was. (c.in_ok-answers.ensures.numbers before base events rows (subst (StandsNumbered base events rows old) has was)).0;
+      takes = subst (λ (db : Database). MayTake (joined c.in_ok-answers.answers) db trees) (c.answer_each.ensures.looks.same before open_then) (may open_then);
+    }) c.answer_each.ensures.looks.survives c.keep_each.ensures.crash
 
 pub returns-in-Err-clause-crash : goal.returns-in-Err-clause-crash
 returns-in-Err-clause-crash g c =
     let old = state g.S.Store c.args.self.now.table.conn in
+    let mid = state g.S.Store c.answer_each.new.table.conn in
     let new = state g.S.Store c.keep_each.new.self.conn in
+    let base = c.args.self.now.base in
     let has : c.args.self.now.counted ≡ Some c.in-Some.counted = sym c.take.ensures.value ∙ c.in-Some.is in
-    survives_weaker old new _ _ (λ clean trees may is_open. record {
+    survives_then old mid new _ _ _ (λ _ db none. absurd none)
+    (λ clean trees may still.
+    let before : HasCleanDisk mid = was_clean mid new _ c.keep_each.ensures.crash clean in
+    let open_then : IsTrue mid.is_open = c.in_ok-answers.ensures.open before still in
+    record {
       answers = c.in_ok-answers.answers;
-      numbers = λ events h. (c.in_ok-answers.ensures.numbers (from c.args.self.now.base) events (subst (λ o. IfSome o (IsCountOf (from c.args.self.now.base) events)) has h)).0;
-      takes = may is_open;
-    }) c.keep_each.ensures.crash
+      numbers = λ events rows was. (c.in_ok-answers.ensures.numbers before base events rows (subst (StandsNumbered base events rows old) has was)).0;
+      takes = subst (λ (db : Database). MayTake (joined c.in_ok-answers.answers) db trees) (c.answer_each.ensures.looks.same before open_then) (may open_then);
+    }) c.answer_each.ensures.looks.survives c.keep_each.ensures.crash

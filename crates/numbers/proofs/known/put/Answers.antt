@@ -1,7 +1,7 @@
 use Rattle.std.proofs.Common.{◌∙◌, ap, List, ℕ}
 use Rattle.attributes.specs.Members.{named, with_value}
 use Rattle.attributes.proofs.MembersLemmas.{named-insert_entry}
-use Rattle.numbers.proofs.counted.put.Goals as goal
+use Rattle.numbers.proofs.known.put.Goals as goal
 
 pub returns : goal.returns
 returns c =
