@@ -165,7 +165,8 @@ void jumbetai_outbox_close(void *at);
 size_t jumbetai_numbers_size(void);
 void jumbetai_numbers_open(void *at, struct jumbetai_files *files, uint64_t base,
                            struct jumbetai_reply *reply);
-/* The text is the line of the batch of the events with their numbers. */
+/* The text is the line of the batch of the events with their numbers. Where one of them is refused
+ * `listed` is its index, from 0. */
 void jumbetai_numbers_number(void *at, const unsigned char *bytes, size_t length,
                              struct jumbetai_reply *reply);
 void jumbetai_numbers_read(void *at, uint32_t piece, struct jumbetai_piece *out);

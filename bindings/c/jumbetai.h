@@ -125,7 +125,7 @@ typedef struct jumbetai_order_counts {
  * count. It belongs to the caller, stays what it is whatever becomes of the other, and is given
  * back by jumbetai_free. `events` is how many events a page has, or the text of jumbetai_get or
  * jumbetai_split, and 0 of other texts. Where a call isn't done, all three are 0, but for what
- * jumbetai_combine says of JUMBETAI_OVERLAP. */
+ * jumbetai_number and jumbetai_combine say of some refusals. */
 typedef struct jumbetai_text {
     char *bytes;
     size_t length;
@@ -290,8 +290,9 @@ typedef struct jumbetai_numbers jumbetai_numbers;
  * sources that it numbers: each begins behind `base`, which is given again at each opening, else it
  * is JUMBETAI_FOREIGN. The file is that of a site, whose events are those that were numbered; it is
  * made, opened and kept busy as by jumbetai_open_file, with a cache of the same kind, and a process
- * that was forked leaves it alone. Time and memory in proportion to its events. `*numbers` is null
- * where it isn't done. */
+ * that was forked leaves it alone. Time in proportion to its events, and memory until they are
+ * counted; what stays, beside the cache, is the last number of each source and 1 to 16 MiB,
+ * however many events are numbered. `*numbers` is null where it isn't done. */
 int jumbetai_open_numbers(const char *path, uint32_t cache_mib, uint64_t base,
                           jumbetai_numbers **numbers);
 
@@ -303,7 +304,8 @@ void jumbetai_close_numbers(jumbetai_numbers *numbers);
  * had, for ever; another one has its source's next. They are in the file, on the disk, once the
  * call is done. JUMBETAI_HAS_SEQUENCE and JUMBETAI_TOO_LARGE number nothing; after JUMBETAI_FULL,
  * JUMBETAI_STORE and want of memory the numberer is to be closed and opened again, and the same
- * bytes may be given again. */
+ * bytes may be given again. Of JUMBETAI_HAS_SEQUENCE, JUMBETAI_TOO_LARGE and JUMBETAI_FULL
+ * `events` of the text, which has no bytes, is the index of the first event at fault, from 0. */
 int jumbetai_number(jumbetai_numbers *numbers, const void *bytes, size_t length,
                     jumbetai_text *text);
 

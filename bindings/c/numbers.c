@@ -48,7 +48,10 @@ int jumbetai_number(jumbetai_numbers *numbers, const void *bytes, size_t length,
     jumbetai_begin();
     jumbetai_numbers_number(numbers->room, jumbetai_start_of(bytes), length, &reply);
     int status = jumbetai_end((int)reply.status);
-    if (status) return status;
+    if (status) {
+        text->events = reply.listed; /* the index of the event that is at fault */
+        return status;
+    }
     return jumbetai_copy_text(numbers->room, jumbetai_numbers_read, reply.length, reply.listed,
                               text);
 }

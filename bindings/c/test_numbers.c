@@ -29,10 +29,16 @@ static int is(jumbetai_numbers *numbers, const char *bytes, uint64_t events, con
     return same;
 }
 
-static int is_refused(jumbetai_numbers *numbers, const char *bytes, size_t length, int want) {
-    jumbetai_text text = {(char *)1, 1, 1};
+/* Whether these bytes are refused so, at the event of this index. */
+static int is_refused_at(jumbetai_numbers *numbers, const char *bytes, size_t length, int want,
+                         uint64_t index) {
+    jumbetai_text text = {(char *)1, 1, 9};
     int status = jumbetai_number(numbers, bytes, length, &text);
-    return status == want && !text.bytes && !text.length && !text.events;
+    return status == want && !text.bytes && !text.length && text.events == index;
+}
+
+static int is_refused(jumbetai_numbers *numbers, const char *bytes, size_t length, int want) {
+    return is_refused_at(numbers, bytes, length, want, 0);
 }
 
 static void try_numbers(jumbetai_numbers *numbers) {
@@ -44,6 +50,10 @@ static void try_numbers(jumbetai_numbers *numbers) {
     must(is(numbers, "[]", 0, "[]\n"), "no events");
     must(is_refused(numbers, NUMBERED("z", "9"), strlen(NUMBERED("z", "9")), JUMBETAI_HAS_SEQUENCE),
          "an event with a sequence");
+    const char *third =
+        "[" BARE("p") "," BARE("q") "," NUMBERED("z", "9") "," NUMBERED("y", "9") "]";
+    must(is_refused_at(numbers, third, strlen(third), JUMBETAI_HAS_SEQUENCE, 2),
+         "the first event with a sequence is told");
     must(is_refused(numbers, "{}", 2, JUMBETAI_NO_EVENTS), "no event");
     must(is_refused(numbers, NULL, 0, JUMBETAI_NO_EVENTS), "no bytes");
     must(is_refused(numbers, NULL, 1, JUMBETAI_BAD_ARGUMENT), "null");

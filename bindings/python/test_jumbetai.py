@@ -1005,6 +1005,12 @@ class Outboxes(unittest.TestCase):
         self.assertEqual(json.loads(run("service", "--db", copy))["rows"], 4)
 
 
+def resident():
+    """How many bytes of memory this process has."""
+    with open("/proc/self/statm", encoding="ascii") as it:
+        return int(it.read().split()[1]) * os.sysconf("SC_PAGE_SIZE")
+
+
 class Numberers(unittest.TestCase):
     def bare(self, *ids, source="/a"):
         made = [event(0, source=source, id=str(it)) for it in ids]
@@ -1032,18 +1038,38 @@ class Numberers(unittest.TestCase):
             with jumbetai.Numbers(file, base=40, cache_mib=1) as numbers:
                 self.assertEqual(self.numbers(numbers.number(batch(self.bare(2, 3)))), [42, 43])
                 others = len(json.dumps(self.bare("")[0], separators=(",", ":")))
-                for bytes_, status in (
-                    (batch([event(9)]), Status.HAS_SEQUENCE),
-                    (b"{}", Status.NO_EVENTS),
-                    (batch(self.bare("x" * (262_111 - others))), Status.TOO_LARGE),
+                large = self.bare("x" * (262_111 - others))
+                for bytes_, status, index in (
+                    (batch([event(9)]), Status.HAS_SEQUENCE, 0),
+                    (batch([*self.bare(5, 6), event(9), *large]), Status.HAS_SEQUENCE, 2),
+                    (b"{}", Status.NO_EVENTS, None),
+                    (batch([*self.bare(5), *large, event(9)]), Status.TOO_LARGE, 1),
                 ):
                     with self.assertRaises(Error) as caught:
                         numbers.number(bytes_)
-                    self.assertIs(caught.exception.status, status)
+                    self.assertEqual((caught.exception.status, caught.exception.index), (status, index))
+            with jumbetai.Numbers(os.path.join(folder, "last.db"), base=(1 << 63) - 2) as numbers:
+                with self.assertRaises(Error) as caught:
+                    numbers.number(batch(self.bare(1, 2)))
+                self.assertEqual((caught.exception.status, caught.exception.index), (Status.FULL, 1))
             with Site(file) as site:
                 self.assertEqual(len(site), 4)
             self.assertRaises(ValueError, jumbetai.Numbers, file, -1)
             self.assertRaises(ValueError, jumbetai.Numbers, "a\0b")
+
+    def test_memory_stays_while_events_are_numbered(self):
+        """A numberer that held each text would take some 400 bytes for each of 16,000 events more."""
+        with tempfile.TemporaryDirectory() as folder:
+            with jumbetai.Numbers(os.path.join(folder, "numbers.db"), cache_mib=1) as numbers:
+                held = []
+                for start in range(0, 24_000, 1_000):
+                    told = numbers.number(batch(self.bare(*range(start, start + 1_000))))
+                    held.append(resident())
+                self.assertEqual(self.numbers(told), list(range(23_001, 24_001)))
+                self.assertLess(held[-1] - held[7], 3 << 20)
+                # What was numbered long ago is asked of the file.
+                again = numbers.number(batch(self.bare(*range(0, 24_000, 1_000))))
+                self.assertEqual(self.numbers(again), list(range(1, 24_001, 1_000)))
 
 
 class HandingOn(unittest.TestCase):

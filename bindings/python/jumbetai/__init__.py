@@ -183,9 +183,12 @@ class Error(Exception):
     """A call that isn't done: its status, one of Status where it is known, and that in words. Of Status.STORE and
     Status.SYSTEM `errno` is the error of the system behind it, as errno.ENOSPC of a full disk; else 0, and where the
     system refused nothing. Of `combine` `parts` tells which parts they are, counted from 0: the one whose text is none,
-    and 0, or the two in which a source stands; of Status.COVER_COUNT how many answers and covers there are."""
+    and 0, or the two in which a source stands; of Status.COVER_COUNT how many answers and covers there are. Of
+    `Numbers.number` `index` is that of the first event that isn't numbered, from 0, of Status.HAS_SEQUENCE,
+    Status.TOO_LARGE and Status.FULL; else it is None."""
 
     parts = (0, 0)
+    index: Optional[int] = None
 
     def __init__(self, status: int) -> None:
         super().__init__(_c.library().jumbetai_words(status).decode())
@@ -563,8 +566,16 @@ class Numbers(_Open):
         takes. They are in the file, and synced, once it is done. Status.HAS_SEQUENCE and Status.TOO_LARGE number
         nothing; after Status.FULL, Status.STORE and MemoryError it is to be opened again, and the same may be given
         again."""
-        given = _bytes(given)
-        return self._text("jumbetai_number", given, len(given))[0]
+        given, text = _bytes(given), _c.Text()
+        try:
+            _judge(self._call("jumbetai_number", given, len(given), ctypes.byref(text)))
+            return _c.bytes_at(text.bytes, text.length).raw
+        except Error as fault:
+            if fault.status in (Status.HAS_SEQUENCE, Status.TOO_LARGE, Status.FULL):
+                fault.index = text.events
+            raise
+        finally:
+            _c.library().jumbetai_free(ctypes.byref(text))
 
 
 # The largest number that a call takes.

@@ -749,6 +749,14 @@ impl Drop for Text {
 
 /// The text that a call answers, and how many events it has.
 fn text_of(call: impl FnOnce(*mut ffi::Text) -> c_int) -> Result<(String, u64), Error> {
+    text_or_index(call).map_err(|(error, _)| error)
+}
+
+/// The text that a call answers, and how many events it has; or the error, and the index that stands
+/// in place of that count.
+fn text_or_index(
+    call: impl FnOnce(*mut ffi::Text) -> c_int,
+) -> Result<(String, u64), (Error, u64)> {
     let mut text = Text(ffi::Text {
         bytes: null_mut(),
         length: 0,
@@ -756,11 +764,14 @@ fn text_of(call: impl FnOnce(*mut ffi::Text) -> c_int) -> Result<(String, u64), 
     });
     let status = call(&mut text.0);
     if status != 0 {
-        return Err(Error::of(status));
+        return Err((Error::of(status), text.0.events));
     }
     // SAFETY: where a call is done, so many bytes lie there.
     let bytes = unsafe { std::slice::from_raw_parts(text.0.bytes.cast::<u8>(), text.0.length) };
-    Ok((copied(bytes)?, text.0.events))
+    match copied(bytes) {
+        Ok(json) => Ok((json, text.0.events)),
+        Err(error) => Err((error, 0)),
+    }
 }
 
 /// The very bytes as a text.

@@ -1,6 +1,6 @@
 //! Numbers for events that have none.
 
-use crate::{fitting, path_text, text_of, version, Error};
+use crate::{fitting, path_text, text_or_index, version, Error};
 use jumbetai_sys as ffi;
 use std::fmt;
 use std::path::Path;
@@ -17,6 +17,7 @@ use std::ptr::{null_mut, NonNull};
 /// neither use nor drop it.
 pub struct Numbers {
     raw: NonNull<ffi::Numbers>,
+    refused_at: Option<u64>,
 }
 
 // SAFETY: a numberer has nothing in common with another one, and it is a law of the library that it
@@ -27,8 +28,9 @@ unsafe impl Send for Numbers {}
 impl Numbers {
     /// The numberer of a file, which is made where there is none. Each source begins behind the base,
     /// which is given again at each opening, else it is [`Error::Foreign`]. Of the file so many MiB
-    /// are kept in memory, as by [`Site::open_with_cache`](crate::Site::open_with_cache). Time and
-    /// memory in proportion to the events.
+    /// are kept in memory, as by [`Site::open_with_cache`](crate::Site::open_with_cache). Time in
+    /// proportion to the events, and memory until they are counted; what stays, beside that cache, is
+    /// the last number of each source and 1 to 16 MiB, however many events are numbered.
     pub fn open(path: impl AsRef<Path>, mib: u32, base: u64) -> Result<Numbers, Error> {
         fitting(version())?;
         let path = path_text(path.as_ref())?;
@@ -36,7 +38,10 @@ impl Numbers {
         // SAFETY: the path ends with a zero byte, and is lent for the call.
         match unsafe { ffi::jumbetai_open_numbers(path.as_ptr(), mib, base, &mut raw) } {
             0 => NonNull::new(raw)
-                .map(|raw| Numbers { raw })
+                .map(|raw| Numbers {
+                    raw,
+                    refused_at: None,
+                })
                 .ok_or(Error::OutOfMemory),
             status => Err(Error::of(status)),
         }
@@ -52,10 +57,23 @@ impl Numbers {
     pub fn number(&mut self, bytes: &[u8]) -> Result<String, Error> {
         let raw = self.raw.as_ptr();
         // SAFETY: the numberer is open, and the bytes are lent for the call.
-        let (json, _events) = text_of(|text| unsafe {
+        let answer = text_or_index(|text| unsafe {
             ffi::jumbetai_number(raw, bytes.as_ptr().cast(), bytes.len(), text)
-        })?;
-        Ok(json)
+        });
+        self.refused_at = match answer {
+            Err((Error::HasSequence | Error::TooLarge | Error::Full, index)) => Some(index),
+            _ => None,
+        };
+        match answer {
+            Ok((json, _events)) => Ok(json),
+            Err((error, _)) => Err(error),
+        }
+    }
+
+    /// The index of the first event at fault, from 0, where the last call of [`Numbers::number`] was
+    /// [`Error::HasSequence`], [`Error::TooLarge`] or [`Error::Full`].
+    pub fn refused_at(&self) -> Option<u64> {
+        self.refused_at
     }
 }
 

@@ -56,18 +56,27 @@ fn what_is_refused_is_not_numbered() {
     let numbered = bare("1", "/a").replace('}', r#","sequence":"00000000000000000007"}"#);
     let others = bare("", "/a").len();
     let large = bare(&"x".repeat(262_111 - others), "/a");
-    for (bytes, error) in [
-        (&b"{}"[..], Error::NoEvents),
-        (b"", Error::NoEvents),
-        (numbered.as_bytes(), Error::HasSequence),
+    let (two, three) = (bare("2", "/a"), bare("3", "/a"));
+    for (bytes, error, index) in [
+        (&b"{}"[..], Error::NoEvents, None),
+        (b"", Error::NoEvents, None),
+        (numbered.as_bytes(), Error::HasSequence, Some(0)),
         (
-            format!("[{},{numbered}]", bare("2", "/a")).as_bytes(),
+            format!("[{two},{three},{numbered},{large}]").as_bytes(),
             Error::HasSequence,
+            Some(2),
         ),
-        (large.as_bytes(), Error::TooLarge),
+        (
+            format!("[{two},{large},{numbered}]").as_bytes(),
+            Error::TooLarge,
+            Some(1),
+        ),
     ] {
         assert_eq!(numbers.number(bytes), Err(error));
+        assert_eq!(numbers.refused_at(), index);
     }
+    assert_eq!(numbers.number(b"[]").unwrap(), "[]\n");
+    assert_eq!(numbers.refused_at(), None);
     let json = numbers.number(bare("2", "/a").as_bytes()).unwrap();
     assert_eq!(numbers_of(&json), [1]);
     drop(numbers);
@@ -75,11 +84,14 @@ fn what_is_refused_is_not_numbered() {
     let mut numbers = Numbers::open(folder.file("last.db"), 1, last).unwrap();
     let json = numbers.number(bare("1", "/a").as_bytes()).unwrap();
     assert_eq!(numbers_of(&json), [last + 1]);
-    assert_eq!(numbers.number(bare("2", "/a").as_bytes()), Err(Error::Full));
+    let both = format!("[{},{}]", bare("1", "/a"), bare("2", "/a"));
+    assert_eq!(numbers.number(both.as_bytes()), Err(Error::Full));
+    assert_eq!(numbers.refused_at(), Some(1));
     assert_eq!(
         numbers.number(bare("1", "/a").as_bytes()),
         Err(Error::Store)
     );
+    assert_eq!(numbers.refused_at(), None);
     drop(numbers);
     let mut numbers = Numbers::open(folder.file("last.db"), 1, last).unwrap();
     assert_eq!(numbers.number(bare("1", "/a").as_bytes()).unwrap(), json);

@@ -25,6 +25,7 @@ use Rattle.library_calls.specs.Files.{open_status, untold}
 use Rattle.library_calls.specs.declared.calls.Answered.{Answered}
 use Rattle.library_calls.specs.declared.calls.Piece.{Piece}
 use Rattle.library_calls.specs.declared.calls.Reply.{Reply}
+use Rattle.library_calls.specs.declared.number_calls.Unnumbered.{Unnumbered}
 use Rattle.library_calls.specs.declared.numbers_held.NumbersHeld.{NumbersHeld}
 
 -- the status of libjumbetai's call that a refusal of a numberer is
@@ -36,6 +37,23 @@ number_status (fault.Full index) = 24
 number_status fault.Store = 18
 number_status fault.Foreign = 19
 
+-- the index of the event that a numberer refuses, from 0; else 0
+abbrev pub index_at : NumbererFault → ℕ
+index_at (fault.HasSequence index) = index
+index_at (fault.TooLarge index) = index
+index_at (fault.Full index) = index
+index_at fault.OutOfMemory = 0
+index_at fault.Store = 0
+index_at fault.Foreign = 0
+
+-- why libjumbetai's numberer answers no text: the status of a refusal, and at which event
+abbrev pub IsNumbersRefusal : NumbererFault → Unnumbered → Type 0
+IsNumbersRefusal fault why = (why.status ≡ number_status fault) × (why.index ≡ index_at fault)
+
+-- memory ran out for libjumbetai's text, which is no event's fault
+abbrev pub WantsText : Unnumbered → Type 0
+WantsText why = IsWant why.status × (why.index ≡ 0)
+
 -- the bytes of libjumbetai's caller spell no events, or memory ran out
 abbrev pub IsNoEvents : List ℕ → ℕ → Type 0
 IsNoEvents bytes status = IsWant status ⊎ ((status ≡ 2) × ((why : ReadFault) × Refuses bytes why))
@@ -45,8 +63,8 @@ IsNoEvents bytes status = IsWant status ⊎ ((status ≡ 2) × ((why : ReadFault
 module _ {S : Type 0} (g : Ghosts S) where
   -- a numberer was given events; the answer is the line of what it answered, or why it didn't. Where
   -- memory runs out for the line they are numbered, and given again they have the same numbers
-  pub record Numbers (events : List EventValue) (was is : Numberer S) (made : Result Answered ℕ)
-      : Type 0 where
+  pub record Numbers (events : List EventValue) (was is : Numberer S)
+      (made : Result Answered Unnumbered) : Type 0 where
     pub result : Result (List EventValue) NumbererFault
     pub first : (why : NumberFault) → refusal_from 0 events ≡ Some why
         → result ≡ Err (of_numbers why)
@@ -59,14 +77,15 @@ module _ {S : Type 0} (g : Ghosts S) where
         (λ trees. IsTrue (state g was.table.conn).is_open
         → MayNumber was.base events was.counted (state g was.table.conn) trees)
     pub told : MatchResult result
-        (λ answers. MatchResult made (λ m. IsPageLine answers m.text m.listed) IsWant)
-        (λ why. made ≡ Err (number_status why))
+        (λ answers. MatchResult made (λ m. IsPageLine answers m.text m.listed) WantsText)
+        (λ fault. MatchResult made (λ _. ⊥) (IsNumbersRefusal fault))
 
   -- the bytes spell events, which it was given; or they spell none, and nothing was asked of it
-  abbrev pub NumbersBytes : List ℕ → Numberer S → Numberer S → Result Answered ℕ → Type 0
+  abbrev pub NumbersBytes : List ℕ → Numberer S → Numberer S → Result Answered Unnumbered → Type 0
   NumbersBytes bytes was is made =
       ((events : List EventValue) × Reads bytes events × Numbers events was is made)
-      ⊎ ((status : ℕ) × (made ≡ Err status) × IsNoEvents bytes status × (is ≡ was))
+      ⊎ ((why : Unnumbered) × (made ≡ Err why) × IsNoEvents bytes why.status × (why.index ≡ 0)
+      × (is ≡ was))
 
 -- ---- opening
 
@@ -122,11 +141,12 @@ pub record OpenedNumbers (base : ℕ) (kept : NumbersHeld) (reply : Reply) : Typ
   pub listed : reply.listed ≡ 0
   pub length_is : reply.length ≡ 0
 
--- the text that libjumbetai's numberer made lies there, or that of before, and the reply says which
-abbrev pub KeepsMade : Result Answered ℕ → List ℕ → List ℕ → Reply → Type 0
+-- the text that libjumbetai's numberer made lies there, or that of before, and the reply says which,
+-- and then at which event it was refused
+abbrev pub KeepsMade : Result Answered Unnumbered → List ℕ → List ℕ → Reply → Type 0
 KeepsMade made text kept reply = MatchResult made
     (λ m. (kept ≡ m.text) × (reply.status ≡ 0) × (reply.listed ≡ m.listed))
-    (λ status. (kept ≡ text) × (reply.status ≡ status) × (reply.listed ≡ 0))
+    (λ why. (kept ≡ text) × (reply.status ≡ why.status) × (reply.listed ≡ why.index))
 
 -- no numberer is open in libjumbetai's room, and the reply says so; the text stays
 pub record IsShut (held kept : NumbersHeld) (reply : Reply) : Type 0 where
@@ -140,7 +160,7 @@ pub record IsShut (held kept : NumbersHeld) (reply : Reply) : Type 0 where
 -- what `jumbetai_numbers_number` leaves and replies
 pub record Numbered (bytes : List ℕ) (held kept : NumbersHeld) (reply : Reply) : Type 0 where
   pub did : ((was : _) × (is : _) × (held.numberer ≡ Some was) × (kept.numberer ≡ Some is)
-      × ((made : Result Answered ℕ) × NumbersBytes over_files bytes was is made
+      × ((made : Result Answered Unnumbered) × NumbersBytes over_files bytes was is made
       × KeepsMade made held.text kept.text reply) × (reply.events ≡ is.table.rows))
       ⊎ IsShut held kept reply
   pub length_is : reply.length ≡ length kept.text

@@ -1,15 +1,17 @@
 //! What each call does to the numberer over a file that lies in the room.
 
-ghost use Rattle.std.specs.Prelude.{◌≡◌, ℕ, [], length, IfErr, IfOk, Result};
+ghost use Rattle.std.specs.Prelude.{◌≡◌, [], length, IfErr, IfOk, MatchResult, Result};
 ghost use Rattle.event_json.specs.Reading.{Reads};
 ghost use Rattle.durable_site.specs.Files.{Closes};
 ghost use Rattle.library_calls.specs.declared.calls.Answered.{Answered as Made};
-ghost use Rattle.library_calls.specs.Numbers.{HasReadNumbers, IsNoEvents, KeepsMade, LetsGoNumbers, Numbered, Numbers, NumbersBytes, OpenedNumbers, ServesNumbers, number_status};
+ghost use Rattle.library_calls.specs.declared.number_calls.Unnumbered.{Unnumbered as Why};
+ghost use Rattle.library_calls.specs.Calls.{IsPageLine};
+ghost use Rattle.library_calls.specs.Numbers.{HasReadNumbers, IsNoEvents, KeepsMade, LetsGoNumbers, Numbered, Numbers, NumbersBytes, OpenedNumbers, ServesNumbers, WantsText, index_at, number_status};
 
 use crate::calls::{Answered, DONE, OUT_OF_MEMORY, Piece, Reply, copied, page_line};
 use crate::file_calls::{NOT_OPEN, open_status, tell_nothing};
 use crate::numbers_held::{FileNumberer, NumbersHeld};
-use attributes::{Events, Text};
+use attributes::{Batch, Events, Text};
 use durable_site::{FileFrom, GivenFiles, Unknown, close, connect};
 use event_json::{ReadFault, read_events};
 use number_table::{NotOpened, Numberer, NumbererFault};
@@ -34,6 +36,27 @@ fn number_status(fault: NumbererFault) -> u32
         NumbererFault::Full { .. } => 24,
         NumbererFault::Store => 18,
         NumbererFault::Foreign => 19,
+    }
+}
+
+/// Why libjumbetai's numberer answers bytes with no text.
+#[derive(Clone, Copy)]
+pub(crate) struct Unnumbered {
+    /// The status of the call.
+    pub(crate) status: u32,
+    /// The index of the event that can't be numbered, from 0; else 0.
+    pub(crate) index: u64,
+}
+
+/// The index of the event that a numberer refuses, else 0.
+fn index_at(fault: NumbererFault) -> u64
+    ensures { result ≡ index_at fault }
+{
+    match fault {
+        NumbererFault::HasSequence { index }
+        | NumbererFault::TooLarge { index }
+        | NumbererFault::Full { index } => index,
+        _ => 0,
     }
 }
 
@@ -99,36 +122,49 @@ fn events_in(alloc: Global, bytes: &[u8]) -> Result<Events, u32>
     }
 }
 
-/// Has libjumbetai's numberer number events: the line of them with their numbers, or the status.
+/// The line of events with their numbers, or want of memory as libjumbetai's caller is told it.
+fn numbered_line(alloc: Global, batch: Batch) -> Result<Answered, Unnumbered>
+    ensures { MatchResult result (λ m. IsPageLine batch m.text m.listed) WantsText }
+{
+    match page_line(alloc, Ok(batch)) {
+        Ok(line) => Ok(line),
+        Err(status) => Err(Unnumbered { status, index: 0 }),
+    }
+}
+
+/// Has libjumbetai's numberer number events: the line of them with their numbers, or why not.
 fn number_line<S: Alter + Drop>(
     numberer: &mut Numberer<S>,
     alloc: Global,
     events: &Events,
-) -> Result<Answered, u32>
+) -> Result<Answered, Unnumbered>
     ensures { Numbers S.Store events.now numberer.old numberer.new result }
 {
     match numberer.number(events) {
-        Ok(batch) => page_line(alloc, Ok(batch)),
-        Err(fault) => Err(number_status(fault)),
+        Ok(batch) => numbered_line(alloc, batch),
+        Err(fault) => Err(Unnumbered {
+            status: number_status(fault),
+            index: index_at(fault),
+        }),
     }
 }
 
-/// Has a numberer number the bytes' events: their line, or the status of libjumbetai's call.
+/// Has a numberer number the bytes' events: their line, or why libjumbetai's caller gets none.
 fn number_bytes<S: Alter + Drop>(
     numberer: &mut Numberer<S>,
     alloc: Global,
     bytes: &[u8],
-) -> Result<Answered, u32>
+) -> Result<Answered, Unnumbered>
     ensures { NumbersBytes S.Store bytes.now numberer.old numberer.new result }
 {
     match events_in(alloc, bytes) {
         Ok(events) => number_line(numberer, alloc, &events),
-        Err(status) => Err(status),
+        Err(status) => Err(Unnumbered { status, index: 0 }),
     }
 }
 
 /// Keeps the text that was made in place of the numberer's last one, or tells the caller why not.
-fn keep_text(made: Result<Answered, u32>, text: &mut Text, reply: &mut Reply)
+fn keep_text(made: Result<Answered, Unnumbered>, text: &mut Text, reply: &mut Reply)
     ensures keeps { KeepsMade made text.old text.new reply.new }
     ensures length { reply.new.length ≡ length text.new }
 {
@@ -138,7 +174,10 @@ fn keep_text(made: Result<Answered, u32>, text: &mut Text, reply: &mut Reply)
             reply.listed = answered.listed;
             *text = answered.text;
         }
-        Err(status) => reply.status = status,
+        Err(why) => {
+            reply.status = why.status;
+            reply.listed = why.index;
+        }
     }
     reply.length = text.as_str().len() as u64;
 }
@@ -152,7 +191,7 @@ fn number_and_tell<S: Alter + Drop>(
     bytes: &[u8],
     reply: &mut Reply,
 )
-    ensures did { (made : Result Made ℕ)
+    ensures did { (made : Result Made Why)
         × NumbersBytes S.Store bytes.now numberer.old numberer.new made
         × KeepsMade made text.old text.new reply.new }
     ensures events { reply.new.events ≡ numberer.new.table.rows }
