@@ -218,7 +218,7 @@ fn of_kind(word: &str, text: &str) -> Of {
 fn of_word(word: &str, text: &str) -> Of {
     match word {
         "create" | "adopt" | "open" => of_kind(word, text),
-        "keep" | "load" | "block" | "each" => Of::Inbox,
+        "keep" | "load" | "block" | "find" | "page" | "each" => Of::Inbox,
         "orders" | "fill" => Of::Service,
         "take" | "step" | "turns" => Of::Keeper,
         _ => Of::Connection,

@@ -144,6 +144,31 @@ fn block<S: Alter>(known: &Known, table: &mut Table<S>, text: &str, out: &mut St
     }
 }
 
+/// `find SOURCE ID`: the events of a source and an id.
+fn find<S: Alter>(known: &Known, table: &mut Table<S>, text: &str, out: &mut String) -> End {
+    let Some((source, id)) = text.split_once(' ') else {
+        return End::Untold;
+    };
+    match table.find(source, id) {
+        Ok(events) => done(known.tell_line(out, &events)),
+        Err(fault) => faulty(out, fault),
+    }
+}
+
+/// `page PLACE COUNT`: so many events behind a place.
+fn page<S: Alter>(known: &Known, table: &mut Table<S>, text: &str, out: &mut String) -> End {
+    let Some((after, count)) = text.split_once(' ') else {
+        return End::Untold;
+    };
+    match (number_of(after), number_of(count)) {
+        (Some(after), Some(count)) => match table.page(after, count) {
+            Ok(events) => done(known.tell_line(out, &events)),
+            Err(fault) => faulty(out, fault),
+        },
+        _ => End::Untold,
+    }
+}
+
 /// Adds the list of the events of names, and answers whether it did.
 fn add_list(alloc: Global, known: &Known, lists: &mut List<Batch>, names: &str) -> bool {
     match known.batch(alloc, names) {
@@ -208,6 +233,8 @@ fn call<S: Alter>(
     match word {
         "keep" => keep(alloc, known, table, text, said),
         "block" => block(known, table, text, &mut said.text),
+        "find" => find(known, table, text, &mut said.text),
+        "page" => page(known, table, text, &mut said.text),
         "each" => keep_each(alloc, known, table, text, &mut said.text),
         "load" => load(known, table, &mut said.text),
         _ => {
