@@ -1,8 +1,8 @@
-"""Events are put into a database as such that aren't there, by how many instructions the program takes.
+"""Events are put into a database as such that aren't there, and looked for by its index, by how many instructions the program takes.
 
-No contract says by which statement an event is put in: an answer is the same where a search for it comes first. So instructions are
-counted, which no load changes. To take a new event has 2.2 times the instructions of checking it; put in alone 2.75 times, and
-looked for first some 4.4.
+No contract says by which statement an event is put in, or how it is looked for: the answer is the same. So instructions are counted,
+which no load changes. To take a new event has 2.2 times the instructions of checking it; put in alone 2.75 times, and looked for first
+some 4.4. To number an event again takes as many among a thousand others as among two hundred.
 """
 import re
 import shutil
@@ -36,3 +36,17 @@ def test_new_events_are_put_in_without_a_search(program: str, room: Room) -> Non
     room.put({f"{count}.json": f"[{','.join(events[:count])}]" for count in (FEW, MANY)})
     ratio = more_for(program, "take --db {0}.db {0}.json", room) / more_for(program, "check {0}.json", room)
     assert ratio <= 2.7, f"{ratio:.2f} times the instructions of reading"
+
+
+@pytest.mark.slow
+def test_what_was_numbered_is_looked_for_by_the_index(program: str, room: Room) -> None:
+    if not shutil.which("valgrind"):
+        pytest.skip("valgrind isn't there")
+    lines = [f'{{"specversion":"1.0","id":"{it:07d}","source":"/s","type":"t"}}\n' for it in range(1_000)]
+    room.put({"200.lines": "".join(lines[:200]), "1000.lines": "".join(lines), "known": "".join(lines[:20]), "none": ""})
+    more = {}
+    for rows in (200, 1_000):
+        subprocess.run([program, "number", "--db", f"{rows}.db", f"{rows}.lines"], cwd=room.folder, stdout=subprocess.DEVNULL, check=True)
+        more[rows] = instructions(program, f"number --db {rows}.db known", room) - instructions(program, f"number --db {rows}.db none", room)
+    ratio = more[1_000] / more[200]
+    assert ratio <= 1.5, f"{ratio:.2f} times the instructions where five times as many rows are there"
