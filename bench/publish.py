@@ -55,7 +55,7 @@ def main() -> None:
         os.chmod(folder, 0o755)
         postgres = Postgres(folder)
         if not postgres.is_there():
-            sys.exit("PostgreSQL isn't installed: tools/run_tests.py --install")
+            sys.exit("PostgreSQL isn't installed: apt-get install postgresql")
         postgres.start()
         try:
             with open(given.file, encoding="utf-8") as it:

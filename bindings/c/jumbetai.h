@@ -291,8 +291,8 @@ typedef struct jumbetai_numbers jumbetai_numbers;
  * is JUMBETAI_FOREIGN. The file is that of a site, whose events are those that were numbered; it is
  * made, opened and kept busy as by jumbetai_open_file, with a cache of the same kind, and a process
  * that was forked leaves it alone. Time in proportion to its events, and memory until they are
- * counted; what stays, beside the cache, is the last number of each source and 1 to 16 MiB,
- * however many events are numbered. `*numbers` is null where it isn't done. */
+ * counted; what stays, beside the cache and some bytes for each page of the file, is the last
+ * number of each source and 1 to 16 MiB. `*numbers` is null where it isn't done. */
 int jumbetai_open_numbers(const char *path, uint32_t cache_mib, uint64_t base,
                           jumbetai_numbers **numbers);
 
@@ -341,7 +341,8 @@ typedef struct jumbetai_parts {
  * others no covers are looked at. At JUMBETAI_OVERLAP the text is the source that stands in two
  * parts, where memory is there for it, and is given back too. `parts` may be null. Nothing is
  * taken, and the site isn't asked: it is where the text is made. Time in proportion to the texts,
- * times a logarithm, and to the sources, times the parts; memory in proportion to the texts. */
+ * times a logarithm, to the sources, times the parts, and to the pairs of parts; memory in
+ * proportion to the texts. */
 int jumbetai_combine(jumbetai_site *site, int question, const jumbetai_body *answers,
                      size_t answer_count, const jumbetai_body *covers, size_t cover_count,
                      jumbetai_parts *parts, jumbetai_text *text);

@@ -237,7 +237,8 @@ def combine(question: str, answers: Sequence[Given], covers: Sequence[Given] = (
     very bytes that a site with all events answers. Beside answers to conflicts, latest, kinds, days and gaps stand the
     parts' answers to cover, one each and in the same order; of cover and shown no covers are looked at. An answer and
     its cover are of one moment: whoever asks a part that takes meanwhile asks again until two covers around the answer
-    are the same. Time in proportion to the texts, times a logarithm, and to the sources, times the parts."""
+    are the same. Time in proportion to the texts, times a logarithm, to the sources, times the parts, and to the pairs
+    of parts."""
     if question not in QUESTIONS:
         raise ValueError(f"no such question: {question!r}")
     texts, beside = [_bytes(it) for it in answers], [_bytes(it) for it in covers]
@@ -247,7 +248,7 @@ def combine(question: str, answers: Sequence[Given], covers: Sequence[Given] = (
 
 def combine_summaries(summaries: Sequence[Given]) -> bytes:
     """The summary of a whole region, from those of its parts, in any order of the parts: the very bytes that a site
-    with all events tells. Time in proportion to the texts, times a logarithm, and to the sources, times the parts."""
+    with all events tells. Time as of `combine`."""
     texts = [_bytes(it) for it in summaries]
     return _whole("jumbetai_combine_summaries", _bodies(texts), len(texts))
 
