@@ -237,8 +237,7 @@ def combine(question: str, answers: Sequence[Given], covers: Sequence[Given] = (
     very bytes that a site with all events answers. Beside answers to conflicts, latest, kinds, days and gaps stand the
     parts' answers to cover, one each and in the same order; of cover and shown no covers are looked at. An answer and
     its cover are of one moment: whoever asks a part that takes meanwhile asks again until two covers around the answer
-    are the same. Time in proportion to the texts, times a logarithm, to the sources, times the parts, and to the pairs
-    of parts."""
+    are the same. Time in proportion to the texts and the parts, times a logarithm."""
     if question not in QUESTIONS:
         raise ValueError(f"no such question: {question!r}")
     texts, beside = [_bytes(it) for it in answers], [_bytes(it) for it in covers]

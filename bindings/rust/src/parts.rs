@@ -46,8 +46,8 @@ fn bodies(texts: &[&str]) -> Vec<ffi::Body> {
 ///
 /// [`Error::CoverCount`] where there are more or fewer covers than answers, [`Error::NotACover`] and
 /// [`Error::NotAnAnswer`] where a text is none, [`Error::Overlap`] where a source stands in two parts,
-/// [`Error::TooMany`] where a sum is above 2^64-1. Time in proportion to the texts, times a logarithm, to the
-/// sources, times the parts, and to the pairs of parts.
+/// [`Error::TooMany`] where a sum is above 2^64-1. Time in proportion to the texts and the parts, times a
+/// logarithm.
 pub fn combine(question: Question, answers: &[&str], covers: &[&str]) -> Result<String, Error> {
     let site = Site::new()?;
     let (answers, covers) = (bodies(answers), bodies(covers));
@@ -69,8 +69,8 @@ pub fn combine(question: Question, answers: &[&str], covers: &[&str]) -> Result<
 
 /// The summary of a whole region, from the texts of [`Site::summary`] of its parts, in any order of the parts:
 /// the very bytes that a site with all events tells. [`Error::NotAnAnswer`] where a text is none,
-/// [`Error::Overlap`] where a source stands in two parts. Time in proportion to the texts, times a logarithm,
-/// to the sources, times the parts, and to the pairs of parts.
+/// [`Error::Overlap`] where a source stands in two parts. Time in proportion to the texts and the parts, times
+/// a logarithm.
 pub fn combine_summaries(summaries: &[&str]) -> Result<String, Error> {
     let site = Site::new()?;
     let (given, none) = (bodies(summaries), std::ptr::null_mut());

@@ -1,16 +1,18 @@
 -- Covers of parts, and what they say of the whole.
-use Rattle.std.proofs.Common.{◌≡◌, ◌<◌, ◌+◌, below_more, Bor, ℕ, Option, None, subst, zero, suc, List, [], ◌∷◌, ◌++◌, Bool, true, false, ◌||◌, if◌then◌else◌, bytes_eq, get_or, length, map, take, Some, slice_get, option_map, refl, sym, ap, ap₂, ◌∙◌, true≢false}
+use Rattle.std.proofs.Common.{◌≡◌, ◌<◌, ◌+◌, below_more, Bor, ℕ, Option, None, subst, zero, suc, List, [], ◌∷◌, ◌++◌, Bool, true, false, cond, ◌||◌, if◌then◌else◌, bytes_eq, get_or, length, map, take, String, Some, slice_get, option_map, refl, sym, ap, ap₂, ◌∙◌, true≢false, arith}
+use Rattle.std.specs.BTreeSet.{BTreeSet, contains_text}
+use Rattle.std.specs.declared.alloc.Global.{Global}
 use Rattle.std.specs.List.{AllByRecursion, list_any}
 use Rattle.std.proofs.lemmas.List.{map-append, take_more}
-use Rattle.std.proofs.lemmas.Option.{slice_get-get_or, slice_get-map, slice_get_read}
+use Rattle.std.proofs.lemmas.Option.{slice_get-get_or, slice_get-map, slice_get_read, slice_get_within}
 use Rattle.std.specs.Option.{IfNone, IfSome}
 use Rattle.std.proofs.lemmas.Slice.Eq.{bytes_eq-Decides}
 use Rattle.coverage.specs.Intervals.{holds}
-use Rattle.coverage.specs.Summary.{Entries, Entry, Sources, holds_in, numbers_in, numbers_of}
+use Rattle.coverage.specs.Summary.{Entries, Entry, Sources, entries_of, holds_in, numbers_in, numbers_of}
 use Rattle.views.specs.Line.{cover_line}
 use Rattle.parts.specs.Lines.{AreJoined}
 use Rattle.parts.proofs.LineLemmas.{joined_more}
-use Rattle.parts.specs.Combined.{AreCovers, HasSource, IsOfFirstVersion, IsNoCover}
+use Rattle.parts.specs.Combined.{AreCovers, HasSource, IsNoCover, IsOfFirstVersion, KeepsSources, ShareNone}
 
 pub some_is : {X : Type 0} (y x : X) → Some y ≡ Some x → y ≡ x
 some_is y x h = cc
@@ -41,18 +43,6 @@ map_got f xs i d lt = slice_get-map f xs i ∙ ap (option_map f) (slice_get-get_
 -- what stands at a place
 pub at_place : {X : Type 0} (xs : List X) (i : ℕ) (x y : X) → i < length xs → x ≡ get_or xs i x → slice_get xs i ≡ Some y → x ≡ y
 at_place xs i x y lt is got = some_is x y (sym (slice_get_read xs (length xs) i x refl lt is) ∙ got)
-
-pub any_more : {X : Type 0} (q : X → Bool) (xs : List X) (x : X) → list_any q (xs ++ x ∷ []) ≡ (list_any q xs || q x)
-any_more q [] x = or-false (q x)
-  where
-    or-false : (b : Bool) → (b || false) ≡ b
-    or-false true = refl
-    or-false false = refl
-any_more q (y ∷ ys) x = ap (λ b. q y || b) (any_more q ys x) ∙ assoc (q y) (list_any q ys) (q x)
-  where
-    assoc : (a b c : Bool) → (a || (b || c)) ≡ ((a || b) || c)
-    assoc true b c = refl
-    assoc false b c = refl
 
 pub any_at : {X : Type 0} (q : X → Bool) (xs : List X) (i : ℕ) (x : X) → slice_get xs i ≡ Some x → q x ≡ true → list_any q xs ≡ true
 any_at q [] i x got h = cc
@@ -94,6 +84,49 @@ row_more f xs es i x P is lt at before here =
     let there = ap (λ y. Some (f y)) at ∙ sym (map_got f xs i x lt) ∙ ap (λ l. slice_get l i) is ∙ got in
     subst (λ (y : Entry). P y.0) (some_is (f x) e there) here)
 
+-- ---- sources that were met
+
+pub source_put : (old new : BTreeSet (String Global)) (bs : List ℕ) → ((cs : List ℕ) → contains_text new cs ≡ cond (bytes_eq bs cs) true (contains_text old cs)) → (contains_text new bs ≡ true) × KeepsSources old new
+source_put old new bs h = (
+  h bs ∙ ap (λ b. cond b true (contains_text old bs)) ((bytes_eq-Decides bs bs).1 refl),
+  λ cs was. h cs ∙ ap (cond (bytes_eq bs cs) true) was ∙ both (bytes_eq bs cs),
+)
+  where
+    both : (b : Bool) → cond b true true ≡ true
+    both true = refl
+    both false = refl
+
+-- each source of a summary is that of a row
+pub each_source : (s : Sources) (P : List ℕ → Type 0) → ((k : ℕ) → k < length (entries_of s) → (e : Entry) → slice_get (entries_of s) k ≡ Some e → P e.0) → (source : List ℕ) → HasSource s source → P source
+each_source s P rows source has =
+    let found = entry_of (entries_of s) source has.0 has.1 in
+    subst P found.3 (rows found.0 (slice_get_within (entries_of s) found.0 found.1 found.2) found.1 found.2)
+
+-- a part none of whose sources was met shares none with those before
+pub none_met : (all : List Sources) (met : BTreeSet (String Global)) (i : ℕ) (t : Sources) → slice_get all i ≡ Some t → ((source : List ℕ) → HasSource t source → contains_text met source ≡ false)
+    → ((k : ℕ) → k < i → (s : Sources) → slice_get all k ≡ Some s → (source : List ℕ) → HasSource s source → contains_text met source ≡ true)
+    → (k : ℕ) → k < i → (s u : Sources) → slice_get all k ≡ Some s → slice_get all i ≡ Some u → ShareNone s u
+none_met all met i t at new were k lt s u first second source a b =
+    let same : t ≡ u = some_is t u (sym at ∙ second) in
+    true≢false (sym (were k lt s first source a) ∙ new source (subst (λ v. HasSource v source) (sym same) b))
+
+-- ---- lists, one behind the other
+
+-- what stands at a place of two lists, one behind the other
+pub in_first : {X : Type 0} (xs ys : List X) (i : ℕ) (x : X) → slice_get xs i ≡ Some x → slice_get (xs ++ ys) i ≡ Some x
+in_first [] ys i x got = cc
+in_first (y ∷ xs) ys zero x got = got
+in_first (y ∷ xs) ys (suc i) x got = in_first xs ys i x got
+
+pub from_first : {X : Type 0} (xs ys : List X) (i : ℕ) → i < length xs → slice_get (xs ++ ys) i ≡ slice_get xs i
+from_first [] ys i lt = absurd (omega (arith, lt))
+from_first (y ∷ xs) ys zero lt = refl
+from_first (y ∷ xs) ys (suc i) lt = from_first xs ys i (omega (arith, lt))
+
+pub in_rest : {X : Type 0} (xs ys : List X) (j : ℕ) → slice_get (xs ++ ys) (length xs + j) ≡ slice_get ys j
+in_rest [] ys j = (let e : 0 + j ≡ j = omega arith in ap (slice_get ys) e)
+in_rest (y ∷ xs) ys j = (let e : suc (length xs) + j ≡ suc (length xs + j) = omega arith in ap (slice_get (y ∷ (xs ++ ys))) e ∙ in_rest xs ys j)
+
 -- ---- what is read
 
 pub read_more : (covers : List (Bor (List ℕ))) (i : ℕ) (d : Bor (List ℕ)) (o : Option Sources) (s : Sources) (ss items : List Sources) → i < length covers → o ≡ Some s
@@ -109,9 +142,6 @@ pub none_read : (covers : List (Bor (List ℕ))) (i : ℕ) (d : Bor (List ℕ)) 
     → (text : List ℕ) × (slice_get (map (λ t. t.now) covers) i ≡ Some text) × IsNoCover text
 none_read covers i d o lt none told =
     ((get_or covers i d).now, map_got (λ t. t.now) covers i d lt, subst (λ m. IfNone m (IsNoCover (get_or covers i d).now)) none told)
-
-pub any_taken : {X : Type 0} (q : X → Bool) (xs : List X) (i : ℕ) (x : X) → i < length xs → x ≡ get_or xs i x → list_any q (take (i + 1) xs) ≡ (list_any q (take i xs) || q x)
-any_taken q xs i x lt is = ap (list_any q) (take_more xs i x lt ∙ ap (λ y. take i xs ++ y ∷ []) (sym is)) ∙ any_more q (take i xs) x
 
 -- rows of one text more
 pub joined_next : {X : Type 0} (Tells : List ℕ → List X → Type 0) (texts : List (Bor (List ℕ))) (i : ℕ) (d : Bor (List ℕ)) (o : Option (List X)) (rows all new : List X) → i < length texts → o ≡ Some rows

@@ -1,8 +1,9 @@
 -- Summaries of the parts of a set, joined, are that of the set.
-use Rattle.std.proofs.Common.{◌≡◌, ◌≢◌, ◌<◌, ◌+◌, below_more, Bor, ℕ, List, [], ◌∷◌, ◌++◌, Bool, true, false, ◌&&◌, if◌then◌else◌, bytes_eq, get_or, length, map, take, IsTrue, Option, Some, None, is_some, slice_get, option_map, string_bytes, Result, Ok, Err, refl, sym, ap, ap₂, ◌∙◌, subst, true≢false, arith, eqb-true, eq-eqb}
+use Rattle.std.proofs.Common.{◌≡◌, ◌≢◌, ◌⊎◌, inl, inr, ◌<◌, ◌≤◌, ◌+◌, ◌-◌, nat_lt, Bor, ℕ, List, [], ◌∷◌, ◌++◌, Bool, true, false, ◌&&◌, if◌then◌else◌, bytes_eq, get_or, length, map, take, IsTrue, Option, Some, None, is_some, slice_get, option_map, string_bytes, Result, Ok, Err, refl, sym, ap, ap₂, ◌∙◌, subst, true≢false, arith, eqb-true, eq-eqb}
+use Rattle.std.specs.List.{AllByRecursion}
 use Rattle.std.specs.Option.{IfSome, option_map_or}
 use Rattle.std.specs.Result.{IfErr, OnErr}
-use Rattle.std.proofs.lemmas.List.{length-map, map-append}
+use Rattle.std.proofs.lemmas.List.{length-append, length-map, map-append}
 use Rattle.std.proofs.lemmas.Option.{slice_get-get_or, slice_get-map, slice_get_read}
 use Rattle.attributes.specs.Event.{EventValue}
 use Rattle.coverage.specs.BlockDigests.{HasDigests, HasNumberIn, SourceBlocks, block_digest, blocks_of}
@@ -18,7 +19,7 @@ use Rattle.parts.specs.Part.{falls_to, part}
 use Rattle.parts.specs.Summaries.{AreSummaries, AreSummaryLines, IsAlone, IsJoined, IsSecond, RefusesSummaries, TellAlike, summary_line}
 use Rattle.parts.specs.declared.fault.CombineFault.{CombineFault}
 use Rattle.parts.specs.declared.fault.CombineFault.TheVariants.{OutOfMemory, NotACover, NotAnAnswer, CoverCount, TooMany, Overlap}
-use Rattle.parts.proofs.CoverLemmas.{all_more, at_place, map_taken}
+use Rattle.parts.proofs.CoverLemmas.{all_more, at_place, from_first, in_first, in_rest, map_taken}
 use Rattle.parts.proofs.DigestLemmas.{digest_own}
 use Rattle.parts.proofs.RowLemmas.{numbers}
 use Rattle.parts.proofs.WholeLemmas.{all_at, and_right, same_front}
@@ -69,13 +70,19 @@ no_digest s is source k none = by s.digests is.digests
     by None h = refl
     by (Some ds) h = no_option (block_digest (blocks_of ds source) k) (λ some. no_number ((h.exact source k).0 some))
 
-module _ (summaries : List Sources) (n : ℕ) (next all new : Sources) (lt : n < length summaries) (at : next ≡ get_or summaries n next) (is_next : IsSummary next) (is_all : IsSummary all)
-    (numbers_are : (source : List ℕ) → numbers_of new source ≡ chosen (numbers_of all source) (numbers_of all source) (numbers_of next source))
-    (digests_are : (source : List ℕ) (k : ℕ) → block_digest_at new source k ≡ chosen (numbers_of all source) (block_digest_at all source k) (block_digest_at next source k))
-    (joined : IsJoined summaries n all) where
-  stands : slice_get summaries n ≡ Some next
-  stands = slice_get_read summaries (length summaries) n next refl lt at
+-- the one summary there is
+pub joined_one : (summaries : List Sources) (x : Sources) → length summaries ≡ 1 → x ≡ get_or summaries 0 x → IsJoined summaries (length summaries) x
+joined_one summaries x one at = record {
+  alone = λ i lt t source got only.
+      let first : i ≡ 0 = omega (arith, lt, one) in
+      let there : slice_get summaries 0 ≡ Some t = ap (slice_get summaries) (sym first) ∙ got in
+      subst (λ u. TellAlike x u source) (at_place summaries 0 x t (omega (arith, one)) at there) (refl, λ k. refl);
+  none = λ source only. only 0 x (omega (arith, one)) (λ e. absurd (omega (arith, one, e))) (slice_get_read summaries (length summaries) 0 x refl (omega (arith, one)) at);
+}
 
+module _ (next all new : Sources) (is_next : IsSummary next) (is_all : IsSummary all)
+    (numbers_are : (source : List ℕ) → numbers_of new source ≡ chosen (numbers_of all source) (numbers_of all source) (numbers_of next source))
+    (digests_are : (source : List ℕ) (k : ℕ) → block_digest_at new source k ≡ chosen (numbers_of all source) (block_digest_at all source k) (block_digest_at next source k)) where
   -- what was there before
   kept : (source : List ℕ) → numbers_of next source ≡ [] → TellAlike new all source
   kept source none = (
@@ -90,22 +97,54 @@ module _ (summaries : List Sources) (n : ℕ) (next all new : Sources) (lt : n <
     λ k. digests_are source k ∙ chosen_other (numbers_of all source) (block_digest_at all source k) (block_digest_at next source k) none,
   )
 
-  before : (i : ℕ) → i < n → (t : Sources) (source : List ℕ) → slice_get summaries i ≡ Some t → IsAlone summaries (n + 1) i source → TellAlike new t source
-  before i l t source got only =
-      let told = joined.alone i l t source got (λ j u below other there. only j u (omega (arith, below)) other there) in
-      let own = kept source (only n next (omega arith) (λ e. absurd (omega (arith, l, e))) stands) in (own.0 ∙ told.0, λ k. own.1 k ∙ told.1 k)
+  -- both halves
+  module _ (summaries first rest : List Sources) (parts : summaries ≡ first ++ rest) (one : IsJoined first (length first) all) (two : IsJoined rest (length rest) next) where
+    count : length summaries ≡ length first + length rest
+    count = ap length parts ∙ length-append first rest
 
-  none_before : (source : List ℕ) (i : ℕ) → n < i + 1 → IsAlone summaries (n + 1) i source → numbers_of all source ≡ []
-  none_before source i l only = joined.none source (λ j u below other there. only j u (omega (arith, below)) (λ e. absurd (omega (arith, below, l, e))) there)
+    in_halves : (j : ℕ) (u : Sources) → slice_get first j ≡ Some u → slice_get summaries j ≡ Some u
+    in_halves j u got = ap (λ l. slice_get l j) parts ∙ in_first first rest j u got
 
-  last : (t : Sources) (source : List ℕ) → slice_get summaries n ≡ Some t → IsAlone summaries (n + 1) n source → TellAlike new t source
-  last t source got only = subst (λ u. TellAlike new u source) (at_place summaries n next t lt at got) (taken_over source (none_before source n (omega arith) only))
+    behind : (j : ℕ) (u : Sources) → slice_get rest j ≡ Some u → slice_get summaries (length first + j) ≡ Some u
+    behind j u got = ap (λ l. slice_get l (length first + j)) parts ∙ in_rest first rest j ∙ got
 
-  pub joined_more : IsJoined summaries (n + 1) new
-  joined_more = record {
-    alone = below_more _ _ before last;
-    none = λ source only. (taken_over source (none_before source (n + 1) (omega arith) only)).0 ∙ only n next (omega arith) (λ e. absurd (omega (arith, e))) stands;
-  }
+    alone_first : (i : ℕ) (source : List ℕ) → IsAlone summaries (length summaries) i source → IsAlone first (length first) i source
+    alone_first i source only j u below other got = only j u (omega (arith, count, below)) other (in_halves j u got)
+
+    alone_rest : (i k : ℕ) (source : List ℕ) → (i ≡ length first + k) ⊎ (i < length first) → IsAlone summaries (length summaries) i source → IsAlone rest (length rest) k source
+    alone_rest i k source place only j u below other got = only (length first + j) u (omega (arith, count, below)) (differs place) (behind j u got)
+      where
+        differs : (i ≡ length first + k) ⊎ (i < length first) → length first + j ≢ i
+        differs (inl e) same = other (omega (arith, e, same))
+        differs (inr lt) same = absurd (omega (arith, lt, same))
+
+    none_first : (i : ℕ) (source : List ℕ) → length first ≤ i → IsAlone summaries (length summaries) i source → numbers_of all source ≡ []
+    none_first i source past only = one.none source (λ j u below other got. only j u (omega (arith, count, below)) (λ e. absurd (omega (arith, past, below, e))) (in_halves j u got))
+
+    none_rest : (i : ℕ) (source : List ℕ) → i < length first → IsAlone summaries (length summaries) i source → numbers_of next source ≡ []
+    none_rest i source lt only = two.none source (alone_rest i (length rest) source (inr lt) only)
+
+    either : (i : ℕ) (t : Sources) (source : List ℕ) → i < length summaries → slice_get summaries i ≡ Some t → IsAlone summaries (length summaries) i source → (b : Bool) → nat_lt i (length first) ≡ b → TellAlike new t source
+    either i t source lt got only true h =
+        let below : i < length first = grind (arith, h) in
+        let there : slice_get first i ≡ Some t = sym (from_first first rest i below) ∙ ap (λ l. slice_get l i) (sym parts) ∙ got in
+        let told = one.alone i below t source there (alone_first i source only) in
+        let own = kept source (none_rest i source below only) in (own.0 ∙ told.0, λ k. own.1 k ∙ told.1 k)
+    either i t source lt got only false h =
+        let past : length first ≤ i = grind (arith, h) in
+        let k = i - length first in
+        let place : i ≡ length first + k = omega (arith, past) in
+        let there : slice_get rest k ≡ Some t = sym (in_rest first rest k) ∙ ap (slice_get (first ++ rest)) (sym place) ∙ ap (λ l. slice_get l i) (sym parts) ∙ got in
+        let told = two.alone k (omega (arith, lt, count, place)) t source there (alone_rest i k source (inl place) only) in
+        let own = taken_over source (none_first i source past only) in (own.0 ∙ told.0, λ j. own.1 j ∙ told.1 j)
+
+    pub joined_halves : IsJoined summaries (length summaries) new
+    joined_halves = record {
+      alone = λ i lt t source got only. either i t source lt got only (nat_lt i (length first)) refl;
+      none = λ source only.
+          let past : length first ≤ length summaries = omega (arith, count) in
+          (taken_over source (none_first (length summaries) source past only)).0 ∙ two.none source (λ j u below other got. only (length first + j) u (omega (arith, count, below)) (λ e. absurd (omega (arith, count, below, e))) (behind j u got));
+    }
 
 canonical : (es : Entries) (source : List ℕ) → AreEntries es → IsCanonical (numbers_in es source)
 canonical [] source h = rises_from-nil 1
@@ -121,14 +160,23 @@ unheld [] is none = refl
 unheld (q ∷ ps) is none = let h = holds_first (q ∷ ps) (λ e. cc) is in absurd (none h.0 h.1)
 
 -- none yet
-pub none_joined : (summaries : List Sources) (all : Sources) → Digests [] all → IsSecond all × IsJoined summaries 0 all
-none_joined summaries all is = (
-  (is.in_form, is.version),
-  record {
-    alone = λ i lt. absurd (omega (arith, lt));
-    none = λ source only. unheld (numbers_of all source) (canonical all.entries source is.in_form.listed.0) (λ n h. true≢false (sym h ∙ is.numbers source n));
-  },
-)
+pub no_numbers_of : (all : Sources) → Digests [] all → (source : List ℕ) → numbers_of all source ≡ []
+no_numbers_of all is source = unheld (numbers_of all source) (canonical all.entries source is.in_form.listed.0) (λ n h. true≢false (sym h ∙ is.numbers source n))
+
+pub none_joined : (summaries : List Sources) (all : Sources) → length summaries ≡ 0 → Digests [] all → IsJoined summaries (length summaries) all
+none_joined summaries all empty is = record {
+  alone = λ i lt. absurd (omega (arith, lt, empty));
+  none = λ source only. no_numbers_of all is source;
+}
+
+-- those of halves are of version 2
+pub all_first : (first rest : List Sources) → AllByRecursion IsSecond (first ++ rest) → AllByRecursion IsSecond first
+all_first [] rest a = tt
+all_first (s ∷ first) rest a = (a.0, all_first first rest a.1)
+
+pub all_rest : (first rest : List Sources) → AllByRecursion IsSecond (first ++ rest) → AllByRecursion IsSecond rest
+all_rest [] rest a = a
+all_rest (s ∷ first) rest a = all_rest first rest a.1
 
 -- ---- the whole
 

@@ -1,6 +1,8 @@
 -- What parts answer, and what is told of the whole by it.
-use Rattle.std.specs.Prelude.{◌≡◌, ◌≢◌, ◌<◌, ℕ, List, Some, true, length, map, slice_get, string_bytes}
+use Rattle.std.specs.Prelude.{◌≡◌, ◌≢◌, ◌<◌, ℕ, List, Some, true, length, map, slice_get, String, string_bytes}
 use Rattle.std.specs.List.{AllByRecursion, list_any}
+use Rattle.std.specs.BTreeSet.{BTreeSet, contains_text}
+use Rattle.std.specs.declared.alloc.Global.{Global}
 use Rattle.attributes.specs.Event.{EventValue}
 use Rattle.coverage.specs.Summary.{IsSummary, Sources, holds_at, version_of}
 use Rattle.views.specs.Line.{cover_line}
@@ -75,6 +77,10 @@ RefusesRead summaries OutOfMemory = Unit {0}
 RefusesRead summaries (Overlap name i j) =
     (i < j) × HasAt summaries i (string_bytes name) × HasAt summaries j (string_bytes name)
 RefusesRead summaries _ = ⊥
+
+-- the sources of the first set are in the second
+abbrev pub KeepsSources : BTreeSet (String Global) → BTreeSet (String Global) → Type 0
+KeepsSources old new = (source : List ℕ) → contains_text old source ≡ true → contains_text new source ≡ true
 
 -- the combined summary holds what one of the parts' summaries does
 abbrev pub HoldsUnion : List Sources → Sources → Type 0

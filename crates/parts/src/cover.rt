@@ -1,18 +1,20 @@
 //! Covers of parts: which numbers of which sources each has.
 
-ghost use Rattle.std.specs.Prelude.{◌≡◌, ◌<◌, ◌↔◌, ℕ, List, IfErr, IfNone, IfOk, IfSome, IsTrue, OnErr, OnOk, Some, true, length, map, slice_get, string_bytes};
+ghost use Rattle.std.specs.Prelude.{◌≡◌, ◌<◌, ◌↔◌, ℕ, List, IfErr, IfNone, IfOk, IfSome, IsFalse, IsTrue, OnErr, OnOk, Some, false, true, length, map, slice_get, string_bytes};
+ghost use Rattle.std.specs.BTreeSet.{contains_text};
 ghost use Rattle.attributes.specs.Event.{EventValue};
 ghost use Rattle.coverage.specs.Summary.{Sources};
 ghost use Rattle.views.specs.Line.{cover_line};
 ghost use Rattle.views.specs.Question.{IsAnswer};
 ghost use Rattle.views.specs.declared.query.Query.TheVariants as query;
-ghost use Rattle.parts.specs.Combined.{AreAnswers, AreApart, AreApartCovers, AreCovers, HasSource, IsOfFirstVersion, IsNoLineOf, IsOfVersion, HoldsUnion, RefusesCovers, RefusesRead, ShareNone};
+ghost use Rattle.parts.specs.Combined.{AreAnswers, AreApart, AreApartCovers, AreCovers, HasSource, HoldsUnion, IsNoLineOf, IsOfFirstVersion, IsOfVersion, KeepsSources, RefusesCovers, RefusesRead, ShareNone};
 
 use crate::fault::CombineFault;
 use attributes::Text;
 use coverage::laws::texts_tell_summaries;
 use coverage::{Summary, SummaryFault};
 use std::alloc::{AllocError, Global};
+use std::collections::BTreeSet;
 use views::laws::answers_are_alike;
 use views::{Answer, print};
 
@@ -116,28 +118,73 @@ fn check_part(alloc: Global, summaries: &[Summary], second: u64) -> Result<(), C
     Ok(())
 }
 
-/// Whether no source has numbers in two parts; else the first overlap.
-pub(crate) fn check_apart(alloc: Global, summaries: &[Summary]) -> Result<(), CombineFault>
-    ensures apart { OnOk result (AreApart summaries.now) }
-    ensures refused { IfErr result (RefusesRead summaries.now) }
+/// Whether a source of the summary is one of these.
+fn has_any(summary: &Summary, sources: &BTreeSet<String>) -> Result<bool, AllocError>
+    ensures { IfOk result (λ any. IsFalse any → (source : List ℕ) → HasSource summary.now source
+        → contains_text sources.now source ≡ false) }
 {
-    for i in 0..summaries.len() {
-        check_part(alloc, summaries, i as u64)?;
+    let entries = summary.entries()?;
+    for i in 0..entries.len() {
+        let (source, _numbers) = entries[i];
+        if sources.contains(source) {
+            return Ok(true);
+        }
+    }
+    Ok(false)
+}
+
+/// Adds the summary's sources to these.
+fn add_sources(
+    alloc: Global,
+    summary: &Summary,
+    sources: &mut BTreeSet<String>,
+) -> Result<(), AllocError>
+    ensures has { OnOk result ((source : List ℕ) → HasSource summary.now source
+        → contains_text sources.new source ≡ true) }
+    ensures keeps { OnOk result (KeepsSources sources.old sources.new) }
+{
+    let entries = summary.entries()?;
+    for i in 0..entries.len() {
+        let (source, _numbers) = entries[i];
+        let name = String::from_str(alloc, source)?;
+        sources.insert(name)?;
     }
     Ok(())
 }
 
-/// What all of the parts' summaries hold, as one of version 1.
+/// Whether no source has numbers in two parts; else the first overlap. A part is compared with each
+/// one before it only where a source of it was met.
+pub(crate) fn check_apart(alloc: Global, summaries: &[Summary]) -> Result<(), CombineFault>
+    ensures apart { OnOk result (AreApart summaries.now) }
+    ensures refused { IfErr result (RefusesRead summaries.now) }
+{
+    let mut sources = BTreeSet::new(alloc);
+    for i in 0..summaries.len() {
+        let summary = &summaries[i];
+        if has_any(summary, &sources)? {
+            check_part(alloc, summaries, i as u64)?;
+        }
+        add_sources(alloc, summary, &mut sources)?;
+    }
+    Ok(())
+}
+
+/// What all of the parts' summaries hold, as one of version 1. Each is copied once for each halving.
+#[cycle(halves)]
 pub(crate) fn unite(alloc: Global, summaries: &[Summary]) -> Result<Summary, AllocError>
     ensures first { IfOk result (λ all. IsOfFirstVersion all) }
     ensures united { IfOk result (HoldsUnion summaries.now) }
 {
-    let mut all = Summary::empty(alloc);
-    for i in 0..summaries.len() {
-        let next = &summaries[i];
-        all = all.union(next)?;
+    match summaries.len() {
+        0 => Ok(Summary::empty(alloc)),
+        1 => Summary::empty(alloc).union(&summaries[0]),
+        n => {
+            let (first, rest) = summaries.split_at(n / 2);
+            let left = unite(alloc, first)?;
+            let right = unite(alloc, rest)?;
+            left.union(&right)
+        }
     }
-    Ok(all)
 }
 
 /// `combine_covers`, without what is told of the parts of a set in error.
@@ -159,8 +206,7 @@ fn unite_texts(alloc: Global, covers: &[&str]) -> Result<Text, CombineFault>
 
 /// The answer to `cover` over the whole, from the answers of its parts, in any order of the parts.
 /// Refused are a text that is no such answer, and then a source that stands in two parts. Time in
-/// proportion to the sources and intervals, times the parts, times a logarithm; memory to the
-/// texts.
+/// proportion to the sources and intervals and to the parts, times a logarithm; memory to the texts.
 pub(crate) fn combine_covers(alloc: Global, covers: &[&str]) -> Result<Text, CombineFault>
     ensures combined { (p : List ℕ → ℕ) (E : List EventValue)
         → AreAnswers query.Cover p E (map (λ t. t.now) covers.now)

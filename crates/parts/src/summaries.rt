@@ -29,18 +29,25 @@ fn read_summaries(alloc: Global, texts: &[&str]) -> Result<Vec<Summary>, Combine
     Ok(summaries)
 }
 
-/// What all summaries of parts tell, each source as the one that has it does.
+/// What all summaries of parts tell, each source as the one that has it does. Each is copied once
+/// for each halving.
+#[cycle(halves)]
 fn join_all(alloc: Global, summaries: &[Summary]) -> Result<Summary, AllocError>
     requires { AllByRecursion IsSecond summaries.now }
     ensures second { IfOk result (λ all. IsSecond all) }
     ensures joined { IfOk result (IsJoined summaries.now (length summaries.now)) }
 {
-    let mut all = Summary::empty_digested(alloc);
-    for i in 0..summaries.len() {
-        let next = &summaries[i];
-        all = all.join(next)?;
+    match summaries.len() {
+        0 => Ok(Summary::empty_digested(alloc)),
+        1 => summaries[0].copy(),
+        n => {
+            let (first, rest) = summaries.split_at(n / 2);
+            let left = join_all(alloc, first)?;
+            let right = join_all(alloc, rest)?;
+            let all = left.join(&right)?;
+            Ok(all)
+        }
     }
-    Ok(all)
 }
 
 /// The text of the summary that parts combine to, in a line.
@@ -69,7 +76,7 @@ fn join_texts(alloc: Global, summaries: &[&str]) -> Result<Text, CombineFault>
 
 /// The summary of the whole, of version 2, from those of its parts, in any order of the parts.
 /// Refused are a text that is no summary of version 2 with its line end, and then a source that
-/// stands in two parts. Time in proportion to the sources, intervals and blocks, times the parts,
+/// stands in two parts. Time in proportion to the sources, intervals and blocks and to the parts,
 /// times a logarithm; memory to the texts.
 pub fn combine_summaries(alloc: Global, summaries: &[&str]) -> Result<Text, CombineFault>
     ensures combined { (p : List ℕ → ℕ) (E : List EventValue)

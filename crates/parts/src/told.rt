@@ -140,8 +140,8 @@ fn gather(alloc: Global, query: Query, texts: &[&str]) -> Result<Gathered, Combi
 
 /// The answer to `shown`, `conflicts` or `latest` over the whole, from the answers of its parts, in
 /// any order of the parts. Refused are a text that answers the question over no set of numbered
-/// events, and then a source that stands in two texts. Time in proportion to the texts, times a
-/// logarithm, and for such sources to all sources, times the parts; memory to the texts.
+/// events, and then a source that stands in two texts. Time in proportion to the texts and the
+/// parts, times a logarithm; memory to the texts.
 pub(crate) fn combine_events(
     alloc: Global,
     query: Query,

@@ -29,7 +29,7 @@ use views::Query;
 /// Refused are covers that are more or fewer than the answers, then a cover that is none, then a
 /// source that stands in two parts, then a text that answers the question over no set, then a sum
 /// of counts above 2^64 - 1; without covers the text comes before the source. Time in proportion to
-/// the texts, times a logarithm, and to the sources, times the parts; memory to the texts.
+/// the texts and the parts, times a logarithm; memory to the texts.
 pub fn combine(
     alloc: Global,
     query: Query,
