@@ -340,8 +340,8 @@ typedef struct jumbetai_parts {
  * parts' answers to JUMBETAI_COVER, one each and in the same order, of the same moment; of the two
  * others no covers are looked at. At JUMBETAI_OVERLAP the text is the source that stands in two
  * parts, where memory is there for it, and is given back too. `parts` may be null. Nothing is
- * taken, and the site isn't asked: it is where the text is made. Time in proportion to the texts and
- * the parts, times a logarithm; memory in proportion to the texts. */
+ * taken, and the site isn't asked: it is where the text is made. Time in proportion to the texts
+ * and the parts, times a logarithm; memory in proportion to the texts. */
 int jumbetai_combine(jumbetai_site *site, int question, const jumbetai_body *answers,
                      size_t answer_count, const jumbetai_body *covers, size_t cover_count,
                      jumbetai_parts *parts, jumbetai_text *text);

@@ -17,7 +17,7 @@ loop-i-preserved c =
     let new = c.insert.new.self in
     let it = source_put old new (string_bytes c.in_ok-name.name) (btree_set_updates_text (string_bytes c.in_ok-name.name) old new true c.in_ok-insert.ensures.updates) in (
       row_more deref_pair entries.items (entries_of summary) c.loop-i.i c.index.result.now (λ s. contains_text new s ≡ true)
-      c.in_ok-entries.ensures.entries within c.index.ensures (λ k lt e got. it.1 e.0 (c.loop-i.invariant.0 k lt e got)) (subst (λ s. contains_text new s ≡ true) c.in_ok-name.ensures.ok it.0),
+          c.in_ok-entries.ensures.entries within c.index.ensures (λ k lt e got. it.1 e.0 (c.loop-i.invariant.0 k lt e got)) (subst (λ s. contains_text new s ≡ true) c.in_ok-name.ensures.ok it.0),
       λ s was. it.1 s (c.loop-i.invariant.1 s was),
     )
 

@@ -17,7 +17,7 @@ loop-i-preserved c =
         | else-branch w ↦ none_met all c.loop-i.sources i own there (c.in_ok-has_any.ensures w.if-branch.false) c.loop-i.invariant.1
       ]),
       below_more _ _ (λ k lt s got source has. added.keeps source (c.loop-i.invariant.1 k lt s got source has))
-      (λ s got source has. added.has source (subst (λ t. HasSource t source) (sym (at_place all i own s c.loop-i-test.true c.index-summaries-i.is got)) has)),
+          (λ s got source has. added.has source (subst (λ t. HasSource t source) (sym (at_place all i own s c.loop-i-test.true c.index-summaries-i.is got)) has)),
     )
 
 pub returns-clause-apart : goal.returns-clause-apart
