@@ -38,7 +38,7 @@ REFUSED = (
 
 
 def test_publish(checks: Counts, postgres: Any) -> None:
-    """What `publish()` writes of an event, looked at closely (as one with extensions is) or not, and what it refuses."""
+    """What `publish()` writes of an event, with extensions or without, and what it refuses."""
     for values in EVENTS:
         both = "; ".join(f"SELECT jumbetai.publish({values}, id => 'own'{more})" for more in ("", ", extensions => '{}'"))
         found = "SELECT count(*), count(DISTINCT event), max(event::jsonb ->> 'id') FROM jumbetai.waiting"

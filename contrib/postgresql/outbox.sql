@@ -33,62 +33,47 @@ CREATE TABLE IF NOT EXISTS jumbetai.outbox (
 -- behind it. data is json and not jsonb, so that it stays as it was written.
 CREATE OR REPLACE FUNCTION jumbetai.publish(
   source text, type text, data json DEFAULT NULL, subject text DEFAULT NULL, "time" timestamptz DEFAULT now(),
-  id text DEFAULT gen_random_uuid()::text, extensions jsonb DEFAULT NULL
+  id text DEFAULT NULL, extensions jsonb DEFAULT NULL
 ) RETURNS text LANGUAGE plpgsql AS $$
 #variable_conflict use_variable
+DECLARE
+  own text := coalesce(id, gen_random_uuid()::text);
+  words text := source || type || own || coalesce(subject, '');
+  given text := data::text;
+  made text;
 BEGIN
-  -- An event that needs no escapes and has nothing to look at closely, as most, is one statement: each transaction
-  -- prepares each expression of a function anew, which costs more than to work it out.
-  INSERT INTO jumbetai.waiting (source, event)
-    SELECT source, '{"specversion":"1.0","id":"' || id || '","source":"' || source || '","type":"' || type || coalesce('","subject":"' || subject, '')
-      || '","time":"' || to_char("time" AT TIME ZONE 'UTC', 'YYYY-MM-DD"T"HH24:MI:SS.US"Z"')
-      || coalesce('","datacontenttype":"application/json","data":' || data::text || '}', '"}')
-    WHERE extensions IS NULL AND "time" BETWEEN '0001-01-02Z' AND '9999-12-30Z'
-      AND source || E'\n' || type || E'\n' || id || E'\n' || coalesce(subject, '-') ~ '^[^\x01-\x1f"\\\x7f-\x9f]+(\n[^\x01-\x1f"\\\x7f-\x9f]+){3}$'
-      AND coalesce(data::text !~ '[\n\r\\]|[0-9][.eE]|[0-9]{19}', true)
-      AND octet_length(source) + octet_length(type) + octet_length(id) + coalesce(octet_length(subject), 0) + coalesce(octet_length(data::text), 0) < 261000;
-  IF FOUND THEN
-    RETURN id;
+  -- Line ends stand between tokens alone: an event is one line.
+  IF strpos(given, E'\n') > 0 OR strpos(given, E'\r') > 0 THEN
+    given := translate(given, E'\n\r', '  ');
   END IF;
-  DECLARE
-    own text := coalesce(id, gen_random_uuid()::text);
-    words text := source || type || own || coalesce(subject, '');
-    given text := data::text;
-    made text;
-  BEGIN
-    -- Line ends stand between tokens alone: an event is one line.
-    IF strpos(given, E'\n') > 0 OR strpos(given, E'\r') > 0 THEN
-      given := translate(given, E'\n\r', '  ');
+  IF words IS NULL OR source = '' OR type = '' OR own = '' OR subject = '' THEN
+    RAISE EXCEPTION 'source, type, id and subject have at least one character' USING ERRCODE = '22023';
+  ELSIF words ~ '[\x01-\x1f\x7f-\x9f]' THEN
+    RAISE EXCEPTION 'source, type, id and subject have no control characters' USING ERRCODE = '22023';
+  ELSIF "time" NOT BETWEEN '0001-01-02Z' AND '9999-12-30Z' THEN
+    RAISE EXCEPTION 'a time is of the years 1 to 9999' USING ERRCODE = '22023';
+  -- What looks like such a number may stand in a text: then texts are taken away first.
+  ELSIF given ~ '[0-9][.eE]|[0-9]{19}' AND regexp_replace(given, '"([^"\\]|\\.)*"', '""', 'g') ~ '[0-9][.eE]|[0-9]{19}' THEN
+    RAISE EXCEPTION 'numbers in data are whole and have at most 18 digits; write others as texts' USING ERRCODE = '22023';
+  ELSIF strpos(given, '\u') > 0 THEN
+    -- Refuses escapes that are no characters, which a json may have.
+    PERFORM given::jsonb;
+  END IF;
+  -- concat passes over what is null.
+  made := concat('{"specversion":"1.0","id":', to_json(own), ',"source":', to_json(source), ',"type":', to_json(type), ',"subject":' || to_json(subject),
+    ',"time":"' || to_char("time" AT TIME ZONE 'UTC', 'YYYY-MM-DD"T"HH24:MI:SS.US"Z"') || '"', ',"datacontenttype":"application/json","data":' || given);
+  IF extensions IS NOT NULL THEN
+    IF EXISTS (SELECT FROM jsonb_each(extensions) AS it WHERE it.key !~ '^[a-z0-9]{1,20}$' OR jsonb_typeof(it.value) <> 'string'
+        OR it.key IN ('specversion', 'id', 'source', 'type', 'subject', 'time', 'sequence', 'data', 'datacontenttype', 'dataschema')) THEN
+      RAISE EXCEPTION 'extensions are texts, named by small letters and digits, and not as another attribute' USING ERRCODE = '22023';
     END IF;
-    IF words IS NULL OR source = '' OR type = '' OR own = '' OR subject = '' THEN
-      RAISE EXCEPTION 'source, type, id and subject have at least one character' USING ERRCODE = '22023';
-    ELSIF words ~ '[\x01-\x1f\x7f-\x9f]' THEN
-      RAISE EXCEPTION 'source, type, id and subject have no control characters' USING ERRCODE = '22023';
-    ELSIF "time" NOT BETWEEN '0001-01-02Z' AND '9999-12-30Z' THEN
-      RAISE EXCEPTION 'a time is of the years 1 to 9999' USING ERRCODE = '22023';
-    -- What looks like such a number may stand in a text: then texts are taken away first.
-    ELSIF given ~ '[0-9][.eE]|[0-9]{19}' AND regexp_replace(given, '"([^"\\]|\\.)*"', '""', 'g') ~ '[0-9][.eE]|[0-9]{19}' THEN
-      RAISE EXCEPTION 'numbers in data are whole and have at most 18 digits; write others as texts' USING ERRCODE = '22023';
-    ELSIF strpos(given, '\u') > 0 THEN
-      -- Refuses escapes that are no characters, which a json may have.
-      PERFORM given::jsonb;
-    END IF;
-    -- concat passes over what is null.
-    made := concat('{"specversion":"1.0","id":', to_json(own), ',"source":', to_json(source), ',"type":', to_json(type), ',"subject":' || to_json(subject),
-      ',"time":"' || to_char("time" AT TIME ZONE 'UTC', 'YYYY-MM-DD"T"HH24:MI:SS.US"Z"') || '"', ',"datacontenttype":"application/json","data":' || given);
-    IF extensions IS NOT NULL THEN
-      IF EXISTS (SELECT FROM jsonb_each(extensions) AS it WHERE it.key !~ '^[a-z0-9]{1,20}$' OR jsonb_typeof(it.value) <> 'string'
-          OR it.key IN ('specversion', 'id', 'source', 'type', 'subject', 'time', 'sequence', 'data', 'datacontenttype', 'dataschema')) THEN
-        RAISE EXCEPTION 'extensions are texts, named by small letters and digits, and not as another attribute' USING ERRCODE = '22023';
-      END IF;
-      made := made || coalesce((SELECT string_agg(',' || to_json(it.key) || ':' || it.value, '') FROM jsonb_each(extensions) AS it), '');
-    END IF;
-    IF octet_length(made) > 262000 THEN
-      RAISE EXCEPTION 'an event has at most 262,000 bytes' USING ERRCODE = '22023';
-    END IF;
-    INSERT INTO jumbetai.waiting (source, event) VALUES (source, made || '}');
-    RETURN own;
-  END;
+    made := made || coalesce((SELECT string_agg(',' || to_json(it.key) || ':' || it.value, '') FROM jsonb_each(extensions) AS it), '');
+  END IF;
+  IF octet_length(made) > 262000 THEN
+    RAISE EXCEPTION 'an event has at most 262,000 bytes' USING ERRCODE = '22023';
+  END IF;
+  INSERT INTO jumbetai.waiting (source, event) VALUES (source, made || '}');
+  RETURN own;
 END $$;
 
 -- Numbers what was committed, at most so many events, and answers how many that were. One at a time does so. Of two
