@@ -1,5 +1,5 @@
 -- An event from which its number is taken again.
-use Rattle.std.proofs.Common.{◌≡◌, ◌≤◌, ◌+◌, ℕ, List, [], ◌∷◌, Bool, true, false, bytes_eq, codes, if◌then◌else◌, is_some, length, nat_lt, Option, Some, None, refl, sym, subst, ap, ap₂, ◌∙◌, arith, true≢false}
+use Rattle.std.proofs.Common.{◌≡◌, ◌≤◌, ◌+◌, ℕ, List, [], ◌∷◌, Bool, true, false, bytes_eq, codes, if◌then◌else◌, is_some, length, nat_lt, Option, Some, None, refl, sym, subst, ap, ap₂, ◌∙◌, arith, true≢false, IsUtf8}
 use Rattle.std.specs.declared.cmp.Ordering.{Ordering}
 use Rattle.std.specs.declared.cmp.Ordering.TheVariants.{Less, Equal, Greater}
 use Rattle.std.specs.Ordering.{match_ordering}
@@ -15,16 +15,18 @@ use Rattle.attributes.specs.Bytes.{byte_cmp}
 use Rattle.attributes.specs.Event.{EventValue, direct, json_of, members_of, text, with_content}
 use Rattle.attributes.specs.Fault.{IsEvent, max_text}
 use Rattle.attributes.specs.Members.{value_at}
-use Rattle.attributes.specs.Sequence.{number_of}
+use Rattle.attributes.specs.Sequence.{number_of, sequence_of}
 use Rattle.attributes.specs.declared.content.Content.{Content}
 use Rattle.attributes.specs.declared.content.Content.TheVariants as content
 use Rattle.attributes.specs.declared.scalar.Scalar.{Scalar}
 use Rattle.attributes.proofs.EventLemmas.{members_direct}
+use Rattle.attributes.proofs.LawLemmas.{same_text}
 use Rattle.event_json.specs.Reading.{Reads}
 use Rattle.numbers.specs.Aside.{without}
 use Rattle.numbers.specs.Numbered.{HasNone, HasNumber, IsBare, with_sequence}
 use Rattle.numbers.specs.Refusal.{refusal_at}
 use Rattle.numbers.specs.declared.fault.NumberFault.TheVariants.{HasSequence, TooLarge}
+use Rattle.numbers.proofs.EventLemmas.{numbered_fits}
 use Rattle.numbers.proofs.NumberedLemmas.{numbered_events, tie_tells}
 use Rattle.numbers.proofs.PutLemmas.{numbered_members}
 
@@ -107,3 +109,14 @@ again_is e f x y n m has own same again =
     let number : m ≡ n = some_is m n (sym own ∙ ap number_of has.is ∙ numbered_events.number e has.digits n has.number) in
     let digits : again.digits ≡ has.digits = numbered_events.one_text again.digits has.digits n (again.number ∙ ap (λ k. Some k) number) has.number in
     again.is ∙ ap₂ (λ (t : List ℕ) (g : EventValue). with_sequence t g) digits same ∙ sym has.is
+
+-- so has the text that it is given
+pub row_text : (e x : EventValue) (t : List ℕ) (n m : ℕ) → sequence_of t ≡ Some m → number_of x ≡ Some m → HasNumber n e x → text (with_sequence t e) ≡ text x
+row_text e x t n m seq own has = ap text (again_is e e x (with_sequence t e) n m has own refl (record { digits = t; number = seq; is = refl }))
+
+-- and what has that text is the event with its number
+pub row_is : (e x : EventValue) (t : List ℕ) (n : ℕ) → IsBare e → IsEvent x → sequence_of t ≡ Some n → text (with_sequence t e) ≡ text x → HasNumber n e x
+row_is e x t n bare event seq same =
+    let utf8 : IsUtf8 (text (with_sequence t e)) = subst IsUtf8 (sym same) event.utf8 in
+    let its : IsEvent (with_sequence t e) = numbered_fits.event e t n bare.event bare.none seq bare.fits utf8 in
+    record { digits = t; number = seq; is = same_text x (with_sequence t e) event its (sym same) }

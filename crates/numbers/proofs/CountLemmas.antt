@@ -16,13 +16,13 @@ use Rattle.inbox.specs.Ordered.{has}
 use Rattle.inbox.proofs.OrderLemmas.{key_cmp_total}
 use Rattle.inbox.proofs.ReadLemmas.{take_next}
 use Rattle.inbox.proofs.SetLemmas.{append_new-append}
-use Rattle.numbers.specs.Counts.{Counts, IsCountOf, IsCountOfRows, IsCounted, IsWholeCountOf, KeepsKnown, Knows, TextNumbers, next}
+use Rattle.numbers.specs.Counts.{Counts, IsCountOf, IsCountOfRows, IsCounted, IsWholeCountOf, KeepsKnown, Knows, KnowsOnly, TextNumbers, next}
 use Rattle.numbers.specs.Filter.{MayHave}
 use Rattle.numbers.specs.Numbered.{AreBare, HasNumber, HaveNumbers, IsBare}
 use Rattle.numbers.specs.Numberer.{IsEachOnce, is_of_source, number, of_source, taken, up_to}
 use Rattle.numbers.proofs.BatchLemmas.{all_more}
 use Rattle.numbers.proofs.ListLemmas.{all_map, all_there, has-append, itself, stays_once}
-use Rattle.numbers.proofs.NumberLemmas.{number_stays}
+use Rattle.numbers.proofs.NumberLemmas.{number_stays, only_none, only_stays}
 use Rattle.numbers.proofs.NumberedLemmas.{at_name, elsewhere}
 
 pub bytes_same : (a b : List ℕ) → bytes_eq a b ≡ true → a ≡ b
@@ -46,7 +46,7 @@ untied Equal s h = h
 untied Greater s h = refl
 
 -- events of different texts don't tie
-apart : (e f : EventValue) → bytes_eq (text e) (text f) ≡ false → is_eq (key_cmp e f) ≡ false
+pub apart : (e f : EventValue) → bytes_eq (text e) (text f) ≡ false → is_eq (key_cmp e f) ≡ false
 apart e f h = untied (pair_cmp e f) (text_cmp e f) (is_eq-slice_cmp (text e) (text f) ∙ h)
 
 -- ---- one event more
@@ -201,7 +201,7 @@ module _ (base : List ℕ → ℕ) (A : List EventValue) (c : Counts) (K : TextN
         by false h = more.keeps (text f) (counts.seen f (sym (none_here f h) ∙ there))
 
     pub new_step : IsCountOf base (taken A (e ∷ [])) d
-    new_step = record { last = new_last; seen = new_seen }
+    new_step = record { last = new_last; seen = new_seen; recent = subst (KnowsOnly base T) (sym more.recent) (only_stays base A (e ∷ []) c.recent counts.recent) }
 
 pub too_many : (base : List ℕ → ℕ) (A : List EventValue) (c : Counts) (K : TextNumbers) (e : EventValue) → value_at (text e) K ≡ None → max_sequence < next c (source_of e) → IsCountOf base A c → Knows base A K e → max_sequence < number base (taken A (e ∷ [])) e
 too_many base A c K e none over counts knows = subst (λ n. max_sequence < n) (next_is base A c K e none knows counts) over
@@ -240,6 +240,12 @@ known_step base A L i e K M N at before after =
     let all : taken A (take (i + 1) L) ≡ taken (taken A (take i L)) (e ∷ []) = ap (taken A) more ∙ append_new-append key_cmp_total A (take i L) (e ∷ []) in
     subst (λ Q. KeepsKnown base A Q K N) (sym all) (λ f is h. after f is (before f is h))
 
+pub only_step : (base : List ℕ → ℕ) (A L : List EventValue) (i : ℕ) (e : EventValue) (N : TextNumbers) → slice_get L i ≡ Some e → KnowsOnly base (taken (taken A (take i L)) (e ∷ [])) N → KnowsOnly base (taken A (take (i + 1) L)) N
+only_step base A L i e N at after =
+    let more : take (i + 1) L ≡ take i L ++ e ∷ [] = take_next L i e at in
+    let all : taken A (take (i + 1) L) ≡ taken (taken A (take i L)) (e ∷ []) = ap (taken A) more ∙ append_new-append key_cmp_total A (take i L) (e ∷ []) in
+    subst (λ Q. KnowsOnly base Q N) (sym all) after
+
 -- one of those that are known
 pub knows_at : {X : Type 0} (P : X → Type 0) (xs : List X) (i : ℕ) (x : X) → AllByRecursion P xs → slice_get xs i ≡ Some x → P x
 knows_at P [] i x a h = absurd (cc)
@@ -253,15 +259,16 @@ pub record AreCounted (base : List ℕ → ℕ) (rows : List EventValue) (c : Co
   pub rows_are : IsCountOfRows base rows c
   pub knows : (e : EventValue) → IsEvent e → Knows base rows_are.events K e
 
-none_counted : (b : ℕ) (c : Counts) → c.last ≡ [] → c.base ≡ b → IsCountOf (λ _. b) [] c
-none_counted b c none is = record {
+none_counted : (b : ℕ) (c : Counts) → c.last ≡ [] → c.base ≡ b → c.recent ≡ [] → IsCountOf (λ _. b) [] c
+none_counted b c none is forgotten = record {
   last = λ s. ap₂ (λ (l : List (List ℕ × ℕ)) (k : ℕ). unwrap_or (value_at s l) k) none is ∙ (let e : b ≡ b + 0 = omega arith in e);
   seen = λ e there. absurd (true≢false (sym there));
+  recent = subst (KnowsOnly (λ _. b) []) (sym forgotten) (only_none (λ _. b) []);
 }
 
-pub nothing_counted : (b : ℕ) (c : Counts) (K : TextNumbers) → c.last ≡ [] → c.base ≡ b → K ≡ [] → AreCounted (λ _. b) [] c K
-nothing_counted b c K none is empty = record {
-  rows_are = record { events = []; bare = tt; once = refl; numbers = tt; whole = tt; counts = none_counted b c none is };
+pub nothing_counted : (b : ℕ) (c : Counts) (K : TextNumbers) → c.last ≡ [] → c.base ≡ b → c.recent ≡ [] → K ≡ [] → AreCounted (λ _. b) [] c K
+nothing_counted b c K none is forgotten empty = record {
+  rows_are = record { events = []; bare = tt; once = refl; numbers = tt; whole = tt; counts = none_counted b c none is forgotten };
   knows = λ e event. ap (λ (l : TextNumbers). value_at (text e) l) empty;
 }
 

@@ -1,5 +1,5 @@
 -- Numbers of events in a list.
-use Rattle.std.proofs.Common.{◌≡◌, ℕ, suc, ◌+◌, ◌≤◌, List, [], ◌∷◌, ◌++◌, Bool, true, false, cond, ◌||◌, bytes_eq, if◌then◌else◌, length, map, refl, sym, ap, ◌∙◌, arith, true≢false, is_eq}
+use Rattle.std.proofs.Common.{◌≡◌, ℕ, suc, ◌+◌, ◌≤◌, Some, List, [], ◌∷◌, ◌++◌, Bool, true, false, cond, ◌||◌, bytes_eq, if◌then◌else◌, length, map, refl, sym, ap, ◌∙◌, arith, true≢false, is_eq}
 use Rattle.std.specs.declared.cmp.Ordering.{Ordering}
 use Rattle.std.specs.declared.cmp.Ordering.TheVariants.{Less, Equal, Greater}
 use Rattle.std.specs.Ordering.{ordering_then}
@@ -13,6 +13,7 @@ use Rattle.inbox.specs.KeyOrder.{key_cmp, pair_cmp, text_cmp}
 use Rattle.inbox.specs.Ordered.{has}
 use Rattle.inbox.proofs.OrderLemmas.{key_cmp_total}
 use Rattle.inbox.proofs.SetLemmas.{append_new-append, has-from_Contains, tied_back}
+use Rattle.numbers.specs.Counts.{KnowsOnly, TextNumbers}
 use Rattle.numbers.specs.Numberer.{IsEachOnce, answers, answers_in_turn, is_of_source, number, of_source, place_in, taken, up_to}
 use Rattle.numbers.specs.Law.{AnswersStay, BatchesJoin, NumbersTell, OwnSource}
 use Rattle.numbers.proofs.ListLemmas.{Distinct, all_map, all_there, distinct, grown, itself, map_both, map_filter_same, map_passing, map_same, none_new, stays, stays_once, there, untied}
@@ -53,6 +54,15 @@ pub number_stays : (base : List ℕ → ℕ) (A L : List EventValue) (e : EventV
 number_stays base A L e h =
     let g = grown key_cmp_total A L in
     ap (λ l. base (source_of e) + length (of_source (source_of e) l)) (ap (up_to e) g.1 ∙ up_to_stays A g.0 e h)
+
+-- what is known of a list's texts is so when the list grew
+pub only_stays : (base : List ℕ → ℕ) (A L : List EventValue) (K : TextNumbers) → KnowsOnly base A K → KnowsOnly base (taken A L) K
+only_stays base A L K only e n event at =
+    let it = only e n event at in
+    (stays key_cmp_total A L e it.0, it.1 ∙ sym (number_stays base A L e it.0))
+
+pub only_none : (base : List ℕ → ℕ) (A : List EventValue) → KnowsOnly base A []
+only_none base A e n event at = absurd (cc)
 
 answers_again : (base : List ℕ → ℕ) (A L M : List EventValue) → answers base (taken (taken A L) M) L ≡ answers base A L
 answers_again base A L M =

@@ -10,16 +10,17 @@ use Rattle.numbers.specs.Filter.{KeepsTexts, MayHave}
 use Rattle.numbers.specs.Numbered.{AreBare, HaveNumbers}
 use Rattle.numbers.specs.Numberer.{IsEachOnce, number, of_source}
 
+-- numbers of texts, in byte order of these
+abbrev pub TextNumbers : Type 0
+TextNumbers = List (List ℕ × ℕ)
+
 -- a numberer's counts: the last number of each source, what a source begins behind that has none
--- yet, and a filter of the texts that have numbers
+-- yet, a filter of the texts that have numbers, and some of these texts with theirs
 pub record Counts : Type 0 where
   pub last : List (List ℕ × ℕ)
   pub base : ℕ
   pub seen : List ℕ
-
--- numbers of texts, in byte order of these
-abbrev pub TextNumbers : Type 0
-TextNumbers = List (List ℕ × ℕ)
+  pub recent : TextNumbers
 
 -- the next number that a numberer gives a source
 abbrev pub next : Counts → List ℕ → ℕ
@@ -31,15 +32,13 @@ pub record IsCounted (old new : Counts) (t source : List ℕ) : Type 0 where
   pub base : new.base ≡ old.base
   pub has : MayHave new.seen t
   pub keeps : KeepsTexts old.seen new.seen
-
--- the numberer's counts are those of the list: each source has as many numbers behind its base as
--- events, and each text of the list is one that the filter may have
-pub record IsCountOf (base : List ℕ → ℕ) (A : List EventValue) (c : Counts) : Type 0 where
-  pub last : (source : List ℕ) → unwrap_or (value_at source c.last) c.base
-      ≡ base source + length (of_source source A)
-  pub seen : (e : EventValue) → has key_cmp A e ≡ true → MayHave c.seen (text e)
+  pub recent : new.recent ≡ old.recent
 
 -- ---- what is known of texts
+
+-- these numbers of texts have that of the event
+abbrev pub HasText : TextNumbers → EventValue → Type 0
+HasText known e = is_some (value_at (text e) known) ≡ true
 
 -- these numbers of texts tell of an event whether the list has its text, and with which number
 abbrev pub Knows : (List ℕ → ℕ) → List EventValue → TextNumbers → EventValue → Type 0
@@ -57,7 +56,7 @@ KnowsOnly base A known = (e : EventValue) (n : ℕ) → IsEvent e → value_at (
 
 -- where the list has the event, they have its text
 abbrev pub KnowsIfThere : List EventValue → TextNumbers → EventValue → Type 0
-KnowsIfThere A known e = has key_cmp A e ≡ true → is_some (value_at (text e) known) ≡ true
+KnowsIfThere A known e = has key_cmp A e ≡ true → HasText known e
 
 -- numbers of texts that were those of the list alone are so still, with those that they had, and
 -- with each of these events that the list has
@@ -71,6 +70,17 @@ abbrev pub KeepsKnown : (List ℕ → ℕ) → List EventValue → List EventVal
     → Type 0
 KeepsKnown base A B old new =
     (e : EventValue) → IsEvent e → Knows base A old e → Knows base B new e
+
+-- ---- what is counted of a list
+
+-- the numberer's counts are those of the list: each source has as many numbers behind its base as
+-- events, each text of the list is one that the filter may have, and the texts that are known are
+-- of the list, with their numbers
+pub record IsCountOf (base : List ℕ → ℕ) (A : List EventValue) (c : Counts) : Type 0 where
+  pub last : (source : List ℕ) → unwrap_or (value_at source c.last) c.base
+      ≡ base source + length (of_source source A)
+  pub seen : (e : EventValue) → has key_cmp A e ≡ true → MayHave c.seen (text e)
+  pub recent : KnowsOnly base A c.recent
 
 -- the counts are those of the list, and each of its texts is known
 pub record IsWholeCountOf (base : List ℕ → ℕ) (A : List EventValue) (c : Counts)

@@ -18,7 +18,7 @@ place_of words t = hash_of t % (64 * words)
 abbrev pub HasBit : List ℕ → ℕ → Type 0
 HasBit words place = bit_at (slice_index_or words (place / 64) 0) (place % 64) ≡ 1
 
--- the filter may have the text: its bit is set. That of no text that was added isn't
+-- the filter may have the text: its bit is set, as that of each text that was added
 abbrev pub MayHave : List ℕ → List ℕ → Type 0
 MayHave words t = HasBit words (place_of (length words) t)
 

@@ -1,25 +1,28 @@
-//! What is counted of events: the last number of each source, and which texts may have a number.
+//! What is counted of events: the last number of each source, which texts may have a number, and the
+//! numbers of those that came lately.
 
-ghost use Rattle.std.specs.Prelude.{◌≡◌, ◌≤◌, ◌<◌, ◌↔◌, [], IfOk, IsTrue, MatchOption, OnOk, unwrap_or};
+ghost use Rattle.std.specs.Prelude.{◌≡◌, ◌⊎◌, ◌≤◌, ◌<◌, ◌↔◌, [], IfOk, IsTrue, MatchOption, OnOk, unwrap_or};
 ghost use Rattle.attributes.specs.Members.{value_at};
 ghost use Rattle.attributes.specs.Sequence.{max_sequence};
 ghost use Rattle.numbers.specs.Counts.{IsCounted, next};
 ghost use Rattle.numbers.specs.Filter.{MayHave};
 
 use crate::filter::Filter;
-use crate::known::{at, put};
+use crate::known::{Known, at, put};
 use attributes::{MAX_SEQUENCE, Sequence};
 use std::alloc::{AllocError, Global};
 use std::collections::BTreeMap;
 use std::marker::Model;
+use std::mem;
 
-/// The last number of each source, the number behind which a source begins that has none yet, and a
-/// filter of the texts that have numbers. Memory in proportion to the sources, and 1 MiB to
-/// 16 MiB.
+/// The last number of each source, the number behind which a source begins that has none yet, a
+/// filter of the texts that have numbers, and the numbers of texts that came lately. Memory in
+/// proportion to the sources, 1 MiB to 16 MiB, and 4 MiB.
 #[derive(Drop)]
 pub struct Counted {
     last: BTreeMap<String, Sequence>,
     seen: Filter,
+    recent: Known,
     base: u64,
     alloc: Global,
 }
@@ -30,18 +33,19 @@ impl Model for Counted {
 
     ghost Value = { Counts };
 
-    ghost view = { λ c. record { last = named c.last.entries; base = c.base; seen = c.seen } };
+    ghost view = { λ c. record { last = named c.last.entries; base = c.base; seen = c.seen; recent = c.recent } };
 }
 
 impl Counted {
     /// A numberer's counts of no events, for about so many texts: 4 bytes are taken for each, but
     /// 1 MiB at least and 16 MiB at most.
     pub fn empty(alloc: Global, base: u64, texts: u64) -> Result<Counted, AllocError>
-        ensures { IfOk result (λ c. (c.last ≡ []) × (c.base ≡ base)) }
+        ensures { IfOk result (λ c. (c.last ≡ []) × (c.base ≡ base) × (c.recent ≡ [])) }
     {
         Ok(Counted {
             last: BTreeMap::new(alloc),
             seen: Filter::sized(alloc, texts)?,
+            recent: Known::empty(alloc),
             base,
             alloc,
         })
@@ -85,5 +89,26 @@ impl Counted {
     {
         self.seen.add(text);
         put(self.alloc, &mut self.last, source, number)
+    }
+
+    /// Hands out the numbers of texts that were left known by the calls before. None are left.
+    pub fn take_recent(&mut self) -> Known
+        ensures taken { result ≡ self.old.recent }
+        ensures left { self.new ≡ record self.old { recent = [] } }
+    {
+        mem::replace(&mut self.recent, Known::empty(self.alloc))
+    }
+
+    /// Leaves these numbers of texts known, in place of those that were, unless they take above
+    /// 4 MiB: then none are.
+    pub fn put_recent(&mut self, known: Known)
+        ensures { (self.new ≡ record self.old { recent = known })
+            ⊎ (self.new ≡ record self.old { recent = [] }) }
+    {
+        if !known.is_small() {
+            self.recent = Known::empty(self.alloc);
+            return;
+        }
+        self.recent = known;
     }
 }

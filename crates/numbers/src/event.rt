@@ -60,7 +60,11 @@ fn put_number(
 }
 
 /// The text of an event that the numberer gives its number.
-fn numbered_text(alloc: Global, event: &Event, number: Sequence) -> Result<String, AllocError>
+pub(crate) fn numbered_text(
+    alloc: Global,
+    event: &Event,
+    number: Sequence,
+) -> Result<String, AllocError>
     ensures { IfOk result (λ s. (t : List ℕ) × (sequence_of t ≡ Some number)
         × (string_bytes s ≡ text (with_sequence t event.now))) }
 {

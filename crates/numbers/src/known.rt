@@ -1,26 +1,33 @@
-//! The numbers of the texts that a call has met.
+//! The numbers of the texts that calls have met.
 
-ghost use Rattle.std.specs.Prelude.{◌≡◌, [], ℕ, List, true, IfOk, IsFalse, IsTrue, OnOk};
+ghost use Rattle.std.specs.Prelude.{◌≡◌, ◌↔◌, [], ℕ, List, IfOk, IsTrue, None, OnOk, Some, if◌then◌else◌};
 ghost use Rattle.std.specs.List.{AllByRecursion};
 ghost use Rattle.std.specs.Option.{option_copied};
-ghost use Rattle.attributes.specs.Event.{EventValue, text};
+ghost use Rattle.attributes.specs.Event.{EventValue};
 ghost use Rattle.attributes.specs.Members.{named, value_at, with_value};
 ghost use Rattle.inbox.specs.KeyOrder.{key_cmp};
 ghost use Rattle.inbox.specs.Ordered.{has};
-ghost use Rattle.numbers.specs.Counts.{KnowsOnly, Learns};
+ghost use Rattle.numbers.specs.Counts.{HasText};
 ghost use Rattle.numbers.specs.Numbered.{AreBare, HasNumber, HaveNumbers, IsBare};
-ghost use Rattle.numbers.specs.Numberer.{number};
 
-use crate::event::bare;
-use attributes::{Batch, Sequence, Sequenced};
+use crate::event::numbered_text;
+use attributes::{Batch, Event, Events, Sequence, Sequenced};
 use std::alloc::{AllocError, Global};
 use std::collections::BTreeMap;
 use std::marker::Model;
+
+/// How many bytes an entry of `Known` is reckoned to take beside its text.
+const ENTRY_BYTES: u64 = 64;
+
+/// How many bytes of memory are small for `Known`.
+const SMALL_BYTES: u64 = 4_194_304;
 
 /// Numbers of texts. Memory in proportion to the texts.
 #[derive(Drop)]
 pub struct Known {
     numbers: BTreeMap<String, Sequence>,
+    /// At least the memory that they take, about.
+    bytes: u64,
     alloc: Global,
 }
 
@@ -62,6 +69,7 @@ impl Known {
     {
         Known {
             numbers: BTreeMap::new(alloc),
+            bytes: 0,
             alloc,
         }
     }
@@ -73,45 +81,61 @@ impl Known {
         at(&self.numbers, text)
     }
 
+    /// Whether the number of each event is known by its text. The time of
+    /// [`Known::number_of`] for each.
+    pub fn has_all(&self, events: &Events) -> bool
+        ensures { IsTrue result ↔ AllByRecursion (HasText self.now) events.now }
+    {
+        for i in 0..events.len() {
+            let Some(_number) = self.number_of(events.at(i).text()) else {
+                return false;
+            };
+        }
+        true
+    }
+
     /// Has the number of a text known, in place of the one that was.
     pub fn add(&mut self, text: &str, number: Sequence) -> Result<(), AllocError>
         ensures { OnOk result (self.new ≡ with_value text.now number self.old) }
     {
+        let text_bytes = text.len() as u64;
+        self.bytes = self.bytes.saturating_add(text_bytes);
+        self.bytes = self.bytes.saturating_add(ENTRY_BYTES);
         put(self.alloc, &mut self.numbers, text, number)
     }
+
+    /// Whether these numbers of texts take little memory, about 4 MiB at most.
+    pub(crate) fn is_small(&self) -> bool {
+        self.bytes <= SMALL_BYTES
+    }
 }
 
-/// Has the number of a numberer's row known by the text that it has without it; false where it is
-/// no such row.
-fn learn_row(alloc: Global, known: &mut Known, row: &Sequenced) -> Result<bool, AllocError>
-    ensures learnt { IfOk result (λ own. IsTrue own → (e : EventValue) (n : ℕ) → IsBare e
-        → HasNumber n e row.now → known.new ≡ with_value (text e) n known.old) }
-    ensures refused { IfOk result (λ own. IsFalse own → (e : EventValue) (n : ℕ) → IsBare e
-        → HasNumber n e row.now → ⊥) }
+/// Whether the row is the event with its number, as a numberer keeps it.
+fn is_row_of(alloc: Global, event: &Event, row: &Sequenced) -> Result<bool, AllocError>
+    requires { IsBare event.now }
+    ensures { IfOk result (λ is. IsTrue is ↔ ((n : ℕ) × HasNumber n event.now row.now)) }
 {
-    let found = bare(alloc, row)?;
-    let Some(event) = found else {
-        return Ok(false);
-    };
-    known.add(event.text(), row.number())?;
-    Ok(true)
+    let given = numbered_text(alloc, event, row.number())?;
+    Ok(given.as_str() == row.event().text())
 }
 
-/// Has the numbers of a numberer's rows known, by the texts that they have without them; false only
-/// where some row is no numberer's. Time and memory in proportion to them.
-pub fn learn(alloc: Global, known: &mut Known, rows: &Batch) -> Result<bool, AllocError>
-    ensures learnt { IfOk result (λ own. IsTrue own → (base : List ℕ → ℕ)
-        (A events : List EventValue) → AreBare events
-        → AllByRecursion (λ e. has key_cmp A e ≡ true) events
-        → HaveNumbers (number base A) events rows.now → KnowsOnly base A known.old
-        → Learns base A events known.old known.new) }
-    ensures refused { IfOk result (λ own. IsFalse own → (n : EventValue → ℕ)
-        (events : List EventValue) → AreBare events → HaveNumbers n events rows.now → ⊥) }
+/// The number that the event has among these rows of a numberer, if it is there. Time and memory in
+/// proportion to the event's text, for each row up to its own.
+pub fn number_among(
+    alloc: Global,
+    event: &Event,
+    rows: &Batch,
+) -> Result<Option<Sequence>, AllocError>
+    requires { IsBare event.now }
+    ensures { IfOk result (λ o. (number : EventValue → ℕ) (events : List EventValue)
+        → AreBare events → HaveNumbers number events rows.now
+        → o ≡ (if has key_cmp events event.now then Some (number event.now) else None)) }
 {
     for i in 0..rows.len() {
-        if !learn_row(alloc, known, rows.at(i))? {
-            return Ok(false);
+        let row = rows.at(i);
+        if is_row_of(alloc, event, row)? {
+            return Ok(Some(row.number()));
         }
     }
-    Ok(true)
+    Ok(None)
 }

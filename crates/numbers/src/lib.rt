@@ -19,5 +19,5 @@ pub use count::count_all;
 pub use counted::Counted;
 pub use event::{bare, numbered};
 pub use fault::NumberFault;
-pub use known::{Known, learn};
+pub use known::{Known, number_among};
 pub use turn::number_all;

@@ -5,7 +5,7 @@ ghost use Rattle.std.specs.List.{AllByRecursion};
 ghost use Rattle.attributes.specs.Event.{EventValue};
 ghost use Rattle.attributes.specs.Fault.{IsEvent};
 ghost use Rattle.attributes.specs.Sequence.{max_sequence};
-ghost use Rattle.numbers.specs.Counts.{IsCountOf, KeepsKnown, Knows, KnowsEach};
+ghost use Rattle.numbers.specs.Counts.{IsCountOf, KeepsKnown, Knows, KnowsEach, KnowsOnly};
 ghost use Rattle.numbers.specs.Numbered.{AreBare, AreEachNumbered, HaveNumbers};
 ghost use Rattle.numbers.specs.Numberer.{number, taken};
 ghost use Rattle.numbers.specs.declared.fault.NumberFault.TheVariants.{Full, OutOfMemory};
@@ -32,6 +32,9 @@ fn number_of(
     ensures known { IfOk result (λ _. (base : List ℕ → ℕ) (A : List EventValue)
         → IsCountOf base A counted.old → Knows base A known.old event.now
         → KeepsKnown base A (taken A (event.now ∷ [])) known.old known.new) }
+    ensures only { IfOk result (λ _. (base : List ℕ → ℕ) (A : List EventValue)
+        → IsCountOf base A counted.old → Knows base A known.old event.now
+        → KnowsOnly base A known.old → KnowsOnly base (taken A (event.now ∷ [])) known.new) }
     ensures refused { IfErr result (λ f. (f ≡ OutOfMemory) ⊎ ((f ≡ Full index)
         × ((base : List ℕ → ℕ) (A : List EventValue) → IsCountOf base A counted.old
         → Knows base A known.old event.now
@@ -68,6 +71,9 @@ pub fn number_all(
     ensures known { IfOk result (λ _. (base : List ℕ → ℕ) (A : List EventValue)
         → IsCountOf base A counted.old → KnowsEach base A known.old events.now
         → KeepsKnown base A (taken A events.now) known.old known.new) }
+    ensures only { IfOk result (λ _. (base : List ℕ → ℕ) (A : List EventValue)
+        → IsCountOf base A counted.old → KnowsEach base A known.old events.now
+        → KnowsOnly base A known.old → KnowsOnly base (taken A events.now) known.new) }
     ensures each { IfOk result (AreEachNumbered events.now) }
     ensures events { IfOk result (AllByRecursion IsEvent) }
     ensures refused { IfErr result (λ f. (f ≡ OutOfMemory) ⊎ ((i : ℕ) × (f ≡ Full i))) }

@@ -4,7 +4,7 @@ use Rattle.numbers.proofs.UncountedLemmas.{no_numberer}
 use Rattle.numbers.proofs.count.count_all.Goals as goal
 
 pub rows-init : goal.rows-init
-rows-init c = ([], refl, nothing_counted c.args.base c.in_ok-counted.counted c.empty-known.result c.in_ok-counted.ensures.0 c.in_ok-counted.ensures.1 c.empty-known.ensures)
+rows-init c = ([], refl, nothing_counted c.args.base c.in_ok-counted.counted c.empty-known.result c.in_ok-counted.ensures.0 c.in_ok-counted.ensures.1 c.in_ok-counted.ensures.2 c.empty-known.ensures)
 
 pub rows-preserved : goal.rows-preserved
 rows-preserved c =

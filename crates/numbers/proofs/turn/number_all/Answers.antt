@@ -1,12 +1,12 @@
-use Rattle.std.proofs.Common.{◌≡◌, ◌∙◌, ◌+◌, [], ◌∷◌, ◌++◌, sym, subst, take}
+use Rattle.std.proofs.Common.{◌≡◌, ◌∙◌, ◌+◌, [], ◌∷◌, ◌++◌, arith, sym, subst, take, take_all}
 use Rattle.std.specs.List.{AllByRecursion}
 use Rattle.attributes.specs.Fault.{IsEvent}
 use Rattle.inbox.proofs.ReadLemmas.{take_next}
-use Rattle.numbers.specs.Counts.{IsCountOf, Knows}
+use Rattle.numbers.specs.Counts.{IsCountOf, Knows, KnowsOnly}
 use Rattle.numbers.specs.Numbered.{AreEachNumbered, HasNumber, HaveNumbers}
 use Rattle.numbers.specs.Numberer.{number, taken}
 use Rattle.numbers.proofs.BatchLemmas.{all_more, bare_in, numbered_more}
-use Rattle.numbers.proofs.CountLemmas.{known_step, knows_at, turn_step}
+use Rattle.numbers.proofs.CountLemmas.{known_step, knows_at, only_step, turn_step}
 use Rattle.numbers.proofs.turn.number_all.Goals as goal
 
 pub loop-i-preserved : goal.loop-i-preserved
@@ -30,4 +30,20 @@ loop-i-preserved c =
           let before = c.loop-i.invariant.3 base A h each in
           let its = before e event (knows_at (Knows base A c.args.known.now) L i e each c.at-event.ensures) in
           known_step base A L i e c.args.known.now c.loop-i.known c.number_of.new.known c.at-event.ensures before (c.in_ok-number.ensures.known base _ was.1 its),
+      λ base A h each first.
+          let was = c.loop-i.invariant.2 base A h each in
+          let its = c.loop-i.invariant.3 base A h each e event (knows_at (Knows base A c.args.known.now) L i e each c.at-event.ensures) in
+          only_step base A L i e c.number_of.new.known c.at-event.ensures (c.in_ok-number.ensures.only base _ was.1 its (c.loop-i.invariant.4 base A h each first)),
     )
+
+pub returns-clause-numbers : goal.returns-clause-numbers
+returns-clause-numbers c base A h each =
+    let L = c.args.events.now in
+    let all : take c.loop-i.i L ≡ L = take_all c.loop-i.i L (omega arith) in
+    subst (λ P. HaveNumbers (number base (taken A P)) P c.loop-i.batch × IsCountOf base (taken A P) c.loop-i.counted) all (c.loop-i.invariant.2 base A h each)
+
+pub returns-clause-only : goal.returns-clause-only
+returns-clause-only c base A h each first =
+    let L = c.args.events.now in
+    let all : take c.loop-i.i L ≡ L = take_all c.loop-i.i L (omega arith) in
+    subst (λ P. KnowsOnly base (taken A P) c.loop-i.known) all (c.loop-i.invariant.4 base A h each first)

@@ -5,6 +5,8 @@ use Rattle.attributes.specs.Sequence.{max_sequence}
 use Rattle.numbers.specs.Counts.{IsCounted, KeepsKnown, TextNumbers, next}
 use Rattle.numbers.specs.Numberer.{taken}
 use Rattle.numbers.proofs.CountLemmas.{found_known, found_step, new_known, new_step, next_is, too_many}
+use Rattle.numbers.proofs.KnownLemmas.{new_only}
+use Rattle.numbers.proofs.NumberLemmas.{only_stays}
 use Rattle.numbers.proofs.turn.number_of.Goals as goal
 
 pub returns-in-Some-clause-counts : goal.returns-in-Some-clause-counts
@@ -48,3 +50,16 @@ returns-clause-known c base A h its =
     let next_one : c.in-Some-next_of.number ≡ next counts (source_of e) = c.in-Some-next_of.ensures ∙ ap (next counts) c.source.ensures.value in
     let then : c.add-2.new.self ≡ with_value (text e) (next counts (source_of e)) known = c.in_ok-add-2.ensures ∙ ap (λ t. with_value t c.in-Some-next_of.number known) c.text-3.ensures.text ∙ ap (λ n. with_value (text e) n known) next_one in
     subst (λ (K : TextNumbers). KeepsKnown base A (taken A (e ∷ [])) known K) (sym then) (new_known base A counts known e c.text.ensures.event none its h)
+
+pub returns-in-Some-clause-only : goal.returns-in-Some-clause-only
+returns-in-Some-clause-only c base A h its only = only_stays base A (c.args.event.now ∷ []) c.args.known.now only
+
+pub returns-clause-only : goal.returns-clause-only
+returns-clause-only c base A h its only =
+    let counts = c.args.counted.now in
+    let known = c.args.known.now in
+    let e = c.args.event.now in
+    let none : value_at (text e) known ≡ None = ap (λ t. value_at t known) (sym c.text.ensures.text) ∙ sym c.in_default.ensures in
+    let next_one : c.in-Some-next_of.number ≡ next counts (source_of e) = c.in-Some-next_of.ensures ∙ ap (next counts) c.source.ensures.value in
+    let then : c.add-2.new.self ≡ with_value (text e) (next counts (source_of e)) known = c.in_ok-add-2.ensures ∙ ap (λ t. with_value t c.in-Some-next_of.number known) c.text-3.ensures.text ∙ ap (λ n. with_value (text e) n known) next_one in
+    new_only base A counts known c.add-2.new.self e c.text.ensures.event none its h then only
