@@ -51,7 +51,7 @@ module _ (n : EventValue → ℕ) where
       by false true h g = itself e a (without_them (one_event x d hx hd g)) ∙ sym g
       by false false h g = h ∙ sym g
 
-  same_has : (A D : List EventValue) (e x : EventValue) → AreBare A → AllByRecursion IsEvent D → IsBare e → IsEvent x → HaveNumbers n A D → HasNumber (n e) e x → has key_cmp A e ≡ has key_cmp D x
+  pub same_has : (A D : List EventValue) (e x : EventValue) → AreBare A → AllByRecursion IsEvent D → IsBare e → IsEvent x → HaveNumbers n A D → HasNumber (n e) e x → has key_cmp A e ≡ has key_cmp D x
   same_has [] [] e x a w he hx h one = refl
   same_has [] (d ∷ D) e x a w he hx h one = absurd h
   same_has (b ∷ A) [] e x a w he hx h one = absurd h
@@ -85,3 +85,11 @@ module _ (n : EventValue → ℕ) where
       by : (b : Bool) → Grown (if b then A else A ++ e ∷ []) (if b then D else D ++ x ∷ [])
       by true = was
       by false = record { numbers = more A D e x was.numbers have.0; bare = all_more IsBare A e was.bare bare.0; whole = all_more IsEvent D x was.whole whole.0 }
+
+  -- where the events are there already, so are the rows
+  pub rows_there : (A D L X : List EventValue) → Grown A D → AreBare L → AllByRecursion IsEvent X → HaveNumbers n L X → AllByRecursion (λ e. has key_cmp A e ≡ true) L → AllByRecursion (λ x. has key_cmp D x ≡ true) X
+  rows_there A D [] [] was bare whole have there = tt
+  rows_there A D [] (x ∷ X) was bare whole have there = absurd have
+  rows_there A D (e ∷ L) [] was bare whole have there = absurd have
+  rows_there A D (e ∷ L) (x ∷ X) was bare whole have there =
+      (sym (same_has A D e x was.bare was.whole bare.0 whole.0 was.numbers have.0) ∙ there.0, rows_there A D L X was bare.1 whole.1 have.1 there.1)

@@ -2,9 +2,11 @@
 
 ghost use Rattle.std.specs.Prelude.{◌≡◌};
 ghost use Rattle.number_table.specs.Fault.{of_numbers, of_table};
+ghost use Rattle.number_table.specs.declared.fault.NumbererFault.TheVariants.{OutOfMemory};
 
 use inbox_table::TableFault;
 use numbers::NumberFault;
+use std::alloc::AllocError;
 
 /// Why a numberer refuses a call. An index is that of the event, from 0.
 #[derive(Clone, Copy, PartialEq, Eq, Debug, thiserror::Error)]
@@ -27,6 +29,15 @@ pub enum NumbererFault {
     /// The table is none that a numberer with this base leaves.
     #[error("foreign")]
     Foreign,
+}
+
+impl From<AllocError> for NumbererFault {
+    ghost from_gives = { λ _ f. f ≡ OutOfMemory };
+
+    /// Want of memory while events are looked up.
+    fn from(_refused: AllocError) -> NumbererFault {
+        NumbererFault::OutOfMemory
+    }
 }
 
 impl From<NumberFault> for NumbererFault {

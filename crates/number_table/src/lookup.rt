@@ -1,32 +1,60 @@
 //! Looks for events in the numberer's table, to number them.
 
-ghost use Rattle.std.specs.Prelude.{◌≡◌, ◌∷◌, [], ℕ, List, IfOk, IsTrue, OnOk, Some, length};
+ghost use Rattle.std.specs.Prelude.{◌≡◌, ◌∷◌, [], ℕ, List, true, IfOk, IsTrue, OnOk, Some, length};
 ghost use Rattle.std.specs.List.{AllByRecursion};
 ghost use Rattle.sqlite.specs.Held.{state};
 ghost use Rattle.sqlite.specs.State.{HasCleanDisk};
 ghost use Rattle.attributes.specs.Event.{EventValue};
 ghost use Rattle.attributes.specs.Fault.{IsEvent};
-ghost use Rattle.inbox_table.specs.Calls.{joined};
+ghost use Rattle.inbox.specs.KeyOrder.{key_cmp};
+ghost use Rattle.inbox.specs.Ordered.{has};
+ghost use Rattle.inbox_table.specs.Calls.{IsSettled, joined};
 ghost use Rattle.numbers.specs.Counts.{IsCountOf};
-ghost use Rattle.numbers.specs.Numbered.{AreBare};
+ghost use Rattle.numbers.specs.Numbered.{AreBare, IsBare};
 ghost use Rattle.numbers.specs.Numberer.{taken};
 ghost use Rattle.number_table.specs.Calls.{AnswersNumbers, StandsNumbered, from};
 ghost use Rattle.number_table.specs.Each.{AnswersEach, AreNumberedEach};
 ghost use Rattle.number_table.specs.Lookups.{LearnsNumbers, LooksUp};
 
 use crate::fault::NumbererFault;
-use crate::lists::number_lists;
+use crate::lists::{are_known, number_lists};
 use attributes::{Batch, Event, Events, List};
 use inbox_table::{Table, TableFault};
-use numbers::{Counted, Known, learn, number_all};
+use numbers::{Counted, Known, number_all, number_among};
 use sqlite::Alter;
 use std::alloc::Global;
 
+/// Events with their numbers.
+#[derive(Drop)]
+pub(crate) struct Answer {
+    pub(crate) batch: Batch,
+    /// Each of them had its number before.
+    pub(crate) all_known: bool,
+}
+
+/// The events of several lists with their numbers.
+#[derive(Drop)]
+pub(crate) struct AnswerEach {
+    pub(crate) batches: List<Batch>,
+    /// Each of them had its number before.
+    pub(crate) all_known: bool,
+}
+
+/// Sees that the numberer's table is there, and that a crash leaves it as it is. No row is asked for.
+pub(crate) fn look_at<S: Alter + Drop>(table: &mut Table<S>) -> Result<(), NumbererFault>
+    ensures looks { LooksUp (state S.Store table.old.conn) (state S.Store table.new.conn) }
+    ensures stays { HasCleanDisk (state S.Store table.new.conn) → OnOk result (
+        IsTrue (state S.Store table.new.conn).is_open × IsSettled (state S.Store table.new.conn)) }
+{
+    match table.page(0, 0) {
+        Ok(_) => Ok(()),
+        Err(TableFault::OutOfMemory) => Err(NumbererFault::OutOfMemory),
+        Err(_) => Err(NumbererFault::Store),
+    }
+}
+
 /// Has it known with which number the table has the event, if it has it: it is asked only where the
 /// event's text may have a number, and isn't known.
-///
-/// `Store` too where a row that was asked for isn't a numberer's, which comes only if the disk gives
-/// back what was not written.
 fn look_up<S: Alter + Drop>(
     alloc: Global,
     table: &mut Table<S>,
@@ -34,6 +62,7 @@ fn look_up<S: Alter + Drop>(
     known: &mut Known,
     event: &Event,
 ) -> Result<(), NumbererFault>
+    requires { IsBare event.now }
     ensures looks { LooksUp (state S.Store table.old.conn) (state S.Store table.new.conn) }
     ensures open { HasCleanDisk (state S.Store table.new.conn)
         → IsTrue (state S.Store table.old.conn).is_open
@@ -52,11 +81,12 @@ fn look_up<S: Alter + Drop>(
         Err(TableFault::OutOfMemory) => return Err(NumbererFault::OutOfMemory),
         Err(_) => return Err(NumbererFault::Store),
     };
-    match learn(alloc, known, &rows) {
-        Ok(true) => Ok(()),
-        Ok(false) => Err(NumbererFault::Store),
-        Err(_) => Err(NumbererFault::OutOfMemory),
-    }
+    let found = number_among(alloc, event, &rows)?;
+    let Some(number) = found else {
+        return Ok(());
+    };
+    known.add(event.text(), number)?;
+    Ok(())
 }
 
 /// Looks up each of the events.
@@ -67,6 +97,7 @@ fn look_up_all<S: Alter + Drop>(
     known: &mut Known,
     events: &Events,
 ) -> Result<(), NumbererFault>
+    requires { AreBare events.now }
     ensures looks { LooksUp (state S.Store table.old.conn) (state S.Store table.new.conn) }
     ensures open { HasCleanDisk (state S.Store table.new.conn)
         → IsTrue (state S.Store table.old.conn).is_open
@@ -88,6 +119,7 @@ fn look_up_lists<S: Alter + Drop>(
     known: &mut Known,
     lists: &List<Events>,
 ) -> Result<(), NumbererFault>
+    requires { AllByRecursion AreBare lists.now }
     ensures looks { LooksUp (state S.Store table.old.conn) (state S.Store table.new.conn) }
     ensures open { HasCleanDisk (state S.Store table.new.conn)
         → IsTrue (state S.Store table.old.conn).is_open
@@ -101,30 +133,34 @@ fn look_up_lists<S: Alter + Drop>(
     Ok(())
 }
 
-/// The events with their numbers, those that the table has among them with the numbers that they
-/// have there. Nothing is kept yet; where it is refused, some of the events may be counted.
+/// The events with their numbers: those that they had, by what is known from the calls before or by
+/// the table, or else their sources' next. What is known then is left known. Nothing is kept yet;
+/// where it is refused, some of the events may be counted.
 pub(crate) fn answer_all<S: Alter + Drop>(
     alloc: Global,
     table: &mut Table<S>,
     counted: &mut Counted,
     events: &Events,
-) -> Result<Batch, NumbererFault>
+) -> Result<Answer, NumbererFault>
     requires { AreBare events.now }
     ensures looks { LooksUp (state S.Store table.old.conn) (state S.Store table.new.conn) }
     ensures open { HasCleanDisk (state S.Store table.new.conn)
         → IsTrue (state S.Store table.old.conn).is_open
         → OnOk result (IsTrue (state S.Store table.new.conn).is_open) }
-    ensures numbers { HasCleanDisk (state S.Store table.new.conn) → IfOk result (λ batch.
+    ensures numbers { HasCleanDisk (state S.Store table.new.conn) → IfOk result (λ answer.
         (base : ℕ) (A rows : List EventValue)
         → StandsNumbered base A rows (state S.Store table.old.conn) (Some counted.old)
-        → AnswersNumbers base A events.now batch
-        × IsCountOf (from base) (taken A events.now) counted.new) }
-    ensures events { IfOk result (AllByRecursion IsEvent) }
+        → AnswersNumbers base A events.now answer.batch
+        × IsCountOf (from base) (taken A events.now) counted.new
+        × (IsTrue answer.all_known → AllByRecursion (λ e. has key_cmp A e ≡ true) events.now)) }
+    ensures events { IfOk result (λ answer. AllByRecursion IsEvent answer.batch) }
 {
-    let mut known = Known::empty(alloc);
+    let mut known = counted.take_recent();
     look_up_all(alloc, table, counted, &mut known, events)?;
+    let all_known = known.has_all(events);
     let batch = number_all(alloc, counted, &mut known, events)?;
-    Ok(batch)
+    counted.put_recent(known);
+    Ok(Answer { batch, all_known })
 }
 
 /// The events of each list with their numbers, as [`answer_all`] has those of one.
@@ -133,23 +169,28 @@ pub(crate) fn answer_each<S: Alter + Drop>(
     table: &mut Table<S>,
     counted: &mut Counted,
     lists: &List<Events>,
-) -> Result<List<Batch>, NumbererFault>
+) -> Result<AnswerEach, NumbererFault>
     requires { AllByRecursion AreBare lists.now }
     ensures looks { LooksUp (state S.Store table.old.conn) (state S.Store table.new.conn) }
     ensures open { HasCleanDisk (state S.Store table.new.conn)
         → IsTrue (state S.Store table.old.conn).is_open
         → OnOk result (IsTrue (state S.Store table.new.conn).is_open) }
-    ensures numbers { HasCleanDisk (state S.Store table.new.conn) → IfOk result (λ answers.
+    ensures numbers { HasCleanDisk (state S.Store table.new.conn) → IfOk result (λ answer.
         (base : ℕ) (A rows : List EventValue)
         → StandsNumbered base A rows (state S.Store table.old.conn) (Some counted.old)
-        → AnswersEach (from base) A lists.now answers
-        × IsCountOf (from base) (taken A (joined lists.now)) counted.new) }
-    ensures each { IfOk result (AreNumberedEach lists.now) }
-    ensures one_each { IfOk result (λ answers. length answers ≡ length lists.now) }
-    ensures events { IfOk result (AllByRecursion (AllByRecursion IsEvent)) }
+        → AnswersEach (from base) A lists.now answer.batches
+        × IsCountOf (from base) (taken A (joined lists.now)) counted.new
+        × (IsTrue answer.all_known
+        → AllByRecursion (λ e. has key_cmp A e ≡ true) (joined lists.now))) }
+    ensures each { IfOk result (λ answer. AreNumberedEach lists.now answer.batches) }
+    ensures one_each { IfOk result (λ answer. length answer.batches ≡ length lists.now) }
+    ensures events { IfOk result (λ answer.
+        AllByRecursion (AllByRecursion IsEvent) answer.batches) }
 {
-    let mut known = Known::empty(alloc);
+    let mut known = counted.take_recent();
     look_up_lists(alloc, table, counted, &mut known, lists)?;
-    let answers = number_lists(alloc, counted, &mut known, lists)?;
-    Ok(answers)
+    let all_known = are_known(&known, lists);
+    let batches = number_lists(alloc, counted, &mut known, lists)?;
+    counted.put_recent(known);
+    Ok(AnswerEach { batches, all_known })
 }

@@ -14,7 +14,7 @@ ghost use Rattle.number_table.specs.Fault.{of_numbers, of_table};
 ghost use Rattle.number_table.specs.declared.fault.NumbererFault.TheVariants.{Foreign};
 
 use crate::fault::NumbererFault;
-use crate::lookup::{answer_all, answer_each};
+use crate::lookup::{answer_all, answer_each, look_at};
 use attributes::{Batch, Events, List};
 use inbox_table::{Loaded, NotMade, Table, Unwatched};
 use numbers::{Counted, count_all, refusal};
@@ -22,7 +22,8 @@ use sqlite::{Alter, Connection};
 use std::alloc::Global;
 
 /// A numberer over its table, whose rows are the events that it numbered, with their numbers: a
-/// site's table. Memory for the last number of each source, and for a filter of 1 to 16 MiB.
+/// site's table. Memory for the last number of each source, for a filter of 1 to 16 MiB, and for the
+/// texts that came lately, up to 4 MiB.
 #[derive(Drop)]
 pub struct Numberer<S: Alter> {
     pub table: Table<S>,
@@ -92,7 +93,8 @@ impl<S: Alter + Drop> Numberer<S> {
     /// Numbers the events: each gets the number that its text has, or else its source's next, and
     /// the new ones are kept in the table, in one transaction that is synced. It answers the events
     /// with their numbers, in their order. The table is asked for each event that may have a number,
-    /// as [`Table::find`] is; all else is the time of [`Table::keep`].
+    /// as [`Table::find`] is, unless it came lately; all else is the time of [`Table::keep`], or
+    /// that of one question more where each event had its number.
     ///
     /// `HasSequence` or `TooLarge` names the first event that can't be numbered, before anything is
     /// done. `Full` names one whose source has no number left. Whatever is refused, the table is as
@@ -119,11 +121,16 @@ impl<S: Alter + Drop> Numberer<S> {
         let Some(mut counted) = self.counted.take() else {
             return Err(NumbererFault::Store);
         };
-        let batch = answer_all(self.alloc, &mut self.table, &mut counted, events)?;
-        match self.table.keep(&batch) {
+        let answer = answer_all(self.alloc, &mut self.table, &mut counted, events)?;
+        if answer.all_known {
+            look_at(&mut self.table)?;
+            self.counted = Some(counted);
+            return Ok(answer.batch);
+        }
+        match self.table.keep(&answer.batch) {
             Ok(_) => {
                 self.counted = Some(counted);
-                Ok(batch)
+                Ok(answer.batch)
             }
             Err(fault) => Err(NumbererFault::from(fault)),
         }
@@ -155,11 +162,16 @@ impl<S: Alter + Drop> Numberer<S> {
         let Some(mut counted) = self.counted.take() else {
             return Err(NumbererFault::Store);
         };
-        let answers = answer_each(self.alloc, &mut self.table, &mut counted, lists)?;
-        match self.table.keep_each(&answers) {
+        let answer = answer_each(self.alloc, &mut self.table, &mut counted, lists)?;
+        if answer.all_known {
+            look_at(&mut self.table)?;
+            self.counted = Some(counted);
+            return Ok(answer.batches);
+        }
+        match self.table.keep_each(&answer.batches) {
             Ok(_) => {
                 self.counted = Some(counted);
-                Ok(answers)
+                Ok(answer.batches)
             }
             Err(why) => Err(NumbererFault::from(why)),
         }

@@ -1,11 +1,17 @@
 use Rattle.sqlite.specs.Held.{state}
+use Rattle.numbers.specs.Numberer.{taken}
+use Rattle.numbers.proofs.KnownLemmas.{counts_put, texts_there}
 use Rattle.number_table.specs.Calls.{from}
-use Rattle.number_table.proofs.LookLemmas.{are_events, knows_each}
+use Rattle.number_table.proofs.LookLemmas.{are_events, tells}
 use Rattle.number_table.proofs.lookup.answer_all.Goals as goal
 
 pub returns-clause-numbers : goal.returns-clause-numbers
 returns-clause-numbers g c clean base A rows was =
-    let s = state g.S.Store c.args.table.now.conn in
     let L = c.args.events.now in
-    let each = knows_each base A L rows c.empty-known.result c.look_up_all.new.known s c.args.counted.now c.empty-known.ensures (are_events L c.requires) (c.in_ok-look_up_all.ensures.learns clean) was in
-    c.in_ok-batch.ensures.numbers (from base) A was.counts each
+    let events = are_events L c.requires in
+    let it = tells base A L rows (state g.S.Store c.args.table.now.conn) c.args.counted.now c.take_recent-known.new.self c.take_recent-known.result c.look_up_all.new.known c.take_recent-known.ensures.taken c.take_recent-known.ensures.left events (c.in_ok-look_up_all.ensures.learns clean) was in
+    let got = c.in_ok-batch.ensures.numbers (from base) A it.counts it.each in (
+      got.0,
+      counts_put (from base) (taken A L) c.number_all.new.counted c.put_recent.new.self c.number_all.new.known c.put_recent.ensures (c.in_ok-batch.ensures.only (from base) A it.counts it.each it.only) got.1,
+      λ is. texts_there (from base) A L c.look_up_all.new.known it.only events (c.has_all-all_known.ensures.0 is),
+    )

@@ -1,5 +1,6 @@
 use Rattle.sqlite.specs.Held.{state}
 use Rattle.sqlite.specs.State.{HasCleanDisk}
+use Rattle.numbers.proofs.BatchLemmas.{bare_in}
 use Rattle.number_table.proofs.LookLemmas.{learns_more, learns_none, looks_none, looks_then}
 use Rattle.number_table.proofs.StandLemmas.{was_clean}
 use Rattle.number_table.proofs.lookup.look_up_all.Goals as goal
@@ -8,6 +9,9 @@ pub loop-i-init : goal.loop-i-init
 loop-i-init g c =
     let s = state g.S.Store c.args.table.now.conn in
     (looks_none s, λ clean still. still, λ clean. learns_none c.args.known.now s c.args.counted.now)
+
+pub look_up-requires : goal.look_up-requires
+look_up-requires g c = bare_in c.args.events.now c.loop-i.i c.at.result.now c.requires c.at.ensures
 
 pub loop-i-preserved : goal.loop-i-preserved
 loop-i-preserved g c =
