@@ -1,5 +1,5 @@
 -- The text of an event with its number.
-use Rattle.std.proofs.Common.{◌≡◌, ℕ, List, [], ◌∷◌, Some, None, false, codes, refl, sym, ap, subst, ◌∙◌, IsUtf8}
+use Rattle.std.proofs.Common.{◌≡◌, ℕ, List, [], ◌∷◌, Some, false, codes, refl, sym, ap, subst, ◌∙◌, IsUtf8}
 use Rattle.serde_json.specs.Data.{Members, no_members, object, put, string}
 use Rattle.serde_json.specs.Written.{compact_text, has_float, members_have_float}
 use Rattle.attributes.specs.Event.{EventValue, members_of, text}

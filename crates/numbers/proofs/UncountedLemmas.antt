@@ -1,7 +1,6 @@
 -- Rows that no numberer leaves.
 use Rattle.std.proofs.Common.{◌≡◌, ◌≢◌, ◌⊎◌, inl, inr, ℕ, ◌+◌, List, [], ◌∷◌, ◌++◌, append_assoc, length, true, false, Some, refl, sym, ap, ap₂, subst, ◌∙◌, true≢false}
 use Rattle.attributes.specs.Event.{EventValue, source_of}
-use Rattle.attributes.specs.Fault.{IsEvent}
 use Rattle.attributes.specs.Sequence.{number_of}
 use Rattle.inbox.specs.KeyOrder.{key_cmp}
 use Rattle.inbox.specs.Ordered.{append_new, has}

@@ -1,7 +1,7 @@
 -- What is counted of a list of events without numbers.
-use Rattle.std.specs.Prelude.{◌≡◌, ℕ, suc, ◌+◌, List, [], length, true, Option, Some, None, is_some, unwrap_or, if◌then◌else◌}
+use Rattle.std.specs.Prelude.{◌≡◌, ℕ, suc, ◌+◌, List, length, true, Some, None, is_some, unwrap_or, if◌then◌else◌}
 use Rattle.std.specs.List.{AllByRecursion}
-use Rattle.attributes.specs.Event.{EventValue, source_of, text}
+use Rattle.attributes.specs.Event.{EventValue, text}
 use Rattle.attributes.specs.Fault.{IsEvent}
 use Rattle.attributes.specs.Members.{value_at, with_value}
 use Rattle.inbox.specs.KeyOrder.{key_cmp}

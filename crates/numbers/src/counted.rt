@@ -33,7 +33,12 @@ impl Model for Counted {
 
     ghost Value = { Counts };
 
-    ghost view = { λ c. record { last = named c.last.entries; base = c.base; seen = c.seen; recent = c.recent } };
+    ghost view = { λ c. record {
+      last = named c.last.entries;
+      base = c.base;
+      seen = c.seen;
+      recent = c.recent;
+    } };
 }
 
 impl Counted {

@@ -1,8 +1,7 @@
 use Rattle.std.proofs.Common.{◌≡◌, ◌∙◌, ap, subst, false, IfSome}
-use Rattle.std.proofs.lemmas.Result.{IfOk-weaker}
-use Rattle.serde_json.specs.Data.{Data, Members, object}
-use Rattle.serde_json.specs.View.{members_view, view}
-use Rattle.serde_json.specs.Written.{compact_text, has_float, members_have_float}
+use Rattle.serde_json.specs.Data.{object}
+use Rattle.serde_json.specs.View.{members_view}
+use Rattle.serde_json.specs.Written.{compact_text, has_float}
 use Rattle.serde_json.proofs.Views.{view-Object}
 use Rattle.attributes.specs.Event.{members_of}
 use Rattle.numbers.specs.Aside.{IsRenamed}

@@ -1,4 +1,4 @@
-use Rattle.std.proofs.Common.{◌≡◌, ◌≤◌, ◌∙◌, None, length, sym, arith}
+use Rattle.std.proofs.Common.{◌≡◌, None, sym}
 use Rattle.numbers.specs.Refusal.{refusal_at}
 use Rattle.numbers.proofs.BatchLemmas.{bare_at, bare_step, next_refusal, this_refusal}
 use Rattle.numbers.proofs.batch.refusal.Goals as goal

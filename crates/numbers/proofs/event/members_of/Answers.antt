@@ -1,5 +1,5 @@
-use Rattle.std.proofs.Common.{◌≡◌, ◌∙◌, Some, ap, sym}
-use Rattle.serde_json.specs.Data.{Data, object}
+use Rattle.std.proofs.Common.{◌∙◌, Some, ap, sym}
+use Rattle.serde_json.specs.Data.{Data}
 use Rattle.serde_json.specs.Read.{read}
 use Rattle.serde_json.specs.View.{members_view}
 use Rattle.attributes.specs.Event.{members_of}

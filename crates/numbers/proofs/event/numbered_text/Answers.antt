@@ -1,7 +1,7 @@
-use Rattle.std.proofs.Common.{◌≡◌, ◌∙◌, ap, sym, codes, false, subst}
+use Rattle.std.proofs.Common.{◌≡◌, ◌∙◌, ap, codes}
 use Rattle.std.proofs.lemmas.Result.{IfOk-weaker}
-use Rattle.serde_json.specs.Data.{Data, Members, object, put, string}
-use Rattle.serde_json.specs.View.{members_view, view}
+use Rattle.serde_json.specs.Data.{Members, object, put, string}
+use Rattle.serde_json.specs.View.{members_view}
 use Rattle.serde_json.specs.Written.{compact_text, has_float}
 use Rattle.serde_json.proofs.Views.{view-Object}
 use Rattle.numbers.proofs.TextLemmas.{no_float_with, text_with, with_number}

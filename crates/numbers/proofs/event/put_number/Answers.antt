@@ -1,4 +1,4 @@
-use Rattle.std.proofs.Common.{◌≡◌, ◌∙◌, Some, ap, ap₂, sym, string_bytes, codes, List, ℕ, rules}
+use Rattle.std.proofs.Common.{◌≡◌, ◌∙◌, Some, ap, ap₂, string_bytes, List, ℕ, rules}
 use Rattle.serde_json.specs.Data.{Data, put, string}
 use Rattle.serde_json.specs.View.{members_view, view}
 use Rattle.serde_json.specs.declared.value.Value.{String, the_lemmas}

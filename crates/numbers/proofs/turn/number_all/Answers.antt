@@ -1,9 +1,9 @@
-use Rattle.std.proofs.Common.{◌≡◌, ◌∙◌, ◌+◌, [], ◌∷◌, ◌++◌, arith, sym, subst, take, take_all}
+use Rattle.std.proofs.Common.{◌≡◌, ◌+◌, [], ◌∷◌, ◌++◌, arith, sym, subst, take, take_all}
 use Rattle.std.specs.List.{AllByRecursion}
 use Rattle.attributes.specs.Fault.{IsEvent}
 use Rattle.inbox.proofs.ReadLemmas.{take_next}
 use Rattle.numbers.specs.Counts.{IsCountOf, Knows, KnowsOnly}
-use Rattle.numbers.specs.Numbered.{AreEachNumbered, HasNumber, HaveNumbers}
+use Rattle.numbers.specs.Numbered.{AreEachNumbered, HaveNumbers}
 use Rattle.numbers.specs.Numberer.{number, taken}
 use Rattle.numbers.proofs.BatchLemmas.{all_more, bare_in, numbered_more}
 use Rattle.numbers.proofs.CountLemmas.{known_step, knows_at, only_step, turn_step}

@@ -1,6 +1,5 @@
-use Rattle.std.proofs.Common.{◌≡◌, ◌∙◌, Option, Some, ℕ, ap, is_some, refl, subst, sym, take_all, true, true≢false, arith}
+use Rattle.std.proofs.Common.{◌∙◌, ap, is_some, refl, subst, sym, take_all, true≢false, arith}
 use Rattle.std.specs.List.{AllByRecursion}
-use Rattle.attributes.specs.Event.{text}
 use Rattle.attributes.specs.Members.{value_at}
 use Rattle.numbers.specs.Counts.{HasText}
 use Rattle.numbers.proofs.CountLemmas.{knows_at}
