@@ -51,7 +51,7 @@ module _ (n : EventValue → ℕ) where
       by false true h g = itself e a (without_them (one_event x d hx hd g)) ∙ sym g
       by false false h g = h ∙ sym g
 
-  pub same_has : (A D : List EventValue) (e x : EventValue) → AreBare A → AllByRecursion IsEvent D → IsBare e → IsEvent x → HaveNumbers n A D → HasNumber (n e) e x → has key_cmp A e ≡ has key_cmp D x
+  same_has : (A D : List EventValue) (e x : EventValue) → AreBare A → AllByRecursion IsEvent D → IsBare e → IsEvent x → HaveNumbers n A D → HasNumber (n e) e x → has key_cmp A e ≡ has key_cmp D x
   same_has [] [] e x a w he hx h one = refl
   same_has [] (d ∷ D) e x a w he hx h one = absurd h
   same_has (b ∷ A) [] e x a w he hx h one = absurd h

@@ -1,7 +1,6 @@
 -- What a numberer's table tells of events.
-use Rattle.std.proofs.Common.{◌≡◌, ◌≤◌, ◌+◌, ℕ, zero, suc, List, [], ◌∷◌, ◌++◌, slice_get, take, Bool, true, false, cond, ◌&&◌, bytes_eq, filter, ◌||◌, if◌then◌else◌, is_eq, Option, Some, None, Result, Ok, Err, IsTrue, inl, refl, sym, ap, ap₂, subst, ◌∙◌, arith, true≢false, is_some}
+use Rattle.std.proofs.Common.{◌≡◌, ◌≤◌, ◌+◌, ℕ, zero, suc, List, [], ◌∷◌, ◌++◌, slice_get, take, Bool, true, false, cond, ◌&&◌, bytes_eq, filter, ◌||◌, if◌then◌else◌, is_eq, Option, Some, None, Ok, IsTrue, inl, refl, sym, ap, ap₂, subst, ◌∙◌, arith, true≢false, is_some}
 use Rattle.std.specs.List.{AllByRecursion}
-use Rattle.sqlite_trees.specs.Tree.{Trees}
 use Rattle.sqlite_trees.specs.View.{doubt}
 use Rattle.sqlite.specs.State.{State, HasCleanDisk, Survives}
 use Rattle.sqlite.proofs.StateLemmas.{survives_then}
@@ -14,10 +13,10 @@ use Rattle.inbox.proofs.ReadLemmas.{take_next}
 use Rattle.inbox_table.specs.Calls.{ReadEffect, joined}
 use Rattle.inbox.specs.Shown.{has_key}
 use Rattle.inbox_table.specs.Rows.{IsInbox, events_named}
-use Rattle.numbers.specs.Counts.{Counts, HasText, IsCountOf, KeepsKnown, Knows, KnowsEach, KnowsIfThere, KnowsOnly, Learns, TextNumbers}
+use Rattle.numbers.specs.Counts.{Counts, HasText, IsCountOf, KeepsKnown, KnowsEach, KnowsIfThere, KnowsOnly, Learns, TextNumbers}
 use Rattle.numbers.specs.Filter.{MayHave}
 use Rattle.attributes.specs.Members.{value_at, with_value}
-use Rattle.numbers.specs.Numbered.{AreBare, HasNumber, HaveNumbers, IsBare, with_sequence}
+use Rattle.numbers.specs.Numbered.{AreBare, HasNumber, HaveNumbers, IsBare}
 use Rattle.numbers.specs.Numberer.{number, taken}
 use Rattle.numbers.proofs.KnownLemmas.{counts_with, knows_from, learnt_one}
 use Rattle.numbers.proofs.ListLemmas.{all_map, none_new}

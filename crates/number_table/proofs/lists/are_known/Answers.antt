@@ -1,4 +1,4 @@
-use Rattle.std.proofs.Common.{◌∙◌, ap, arith, refl, subst, sym, take_all, true≢false}
+use Rattle.std.proofs.Common.{◌∙◌, arith, refl, subst, sym, take_all, true≢false}
 use Rattle.std.specs.List.{AllByRecursion}
 use Rattle.inbox_table.specs.Calls.{joined}
 use Rattle.numbers.specs.Counts.{HasText}

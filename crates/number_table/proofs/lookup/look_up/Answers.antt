@@ -1,14 +1,10 @@
-use Rattle.std.proofs.Common.{◌≡◌, ◌∙◌, ℕ, List, Ok, Option, Some, None, IsTrue, ap, if◌then◌else◌, subst, sym}
+use Rattle.std.proofs.Common.{◌≡◌, ◌∙◌, Ok, ap, subst, sym}
 use Rattle.sqlite.specs.Held.{state}
 use Rattle.attributes.specs.Event.{id_of, source_of, text}
 use Rattle.attributes.specs.Members.{value_at, with_value}
-use Rattle.inbox.specs.KeyOrder.{key_cmp}
-use Rattle.inbox.specs.Ordered.{has}
 use Rattle.inbox_table.specs.Calls.{ReadEffect}
 use Rattle.inbox_table.specs.Rows.{events_named}
-use Rattle.numbers.specs.Numberer.{number}
-use Rattle.number_table.specs.Calls.{StandsNumbered, from}
-use Rattle.number_table.proofs.LookLemmas.{known_already, looked_none, looked_some, looks_none, surely_new, told_of}
+use Rattle.number_table.proofs.LookLemmas.{known_already, looked_none, looked_some, looks_none, told_of}
 use Rattle.number_table.proofs.lookup.look_up.Goals as goal
 
 pub returns-in-Some-clause-looks : goal.returns-in-Some-clause-looks

@@ -1,11 +1,10 @@
-use Rattle.std.proofs.Common.{◌≡◌, ◌∙◌, IsTrue, Option, Some, sym, subst}
+use Rattle.std.proofs.Common.{◌≡◌, ◌∙◌, IsTrue, Some, sym, subst}
 use Rattle.std.proofs.lemmas.Result.{err_from_is_err_and}
 use Rattle.sqlite.specs.Effect.{Database}
 use Rattle.sqlite.specs.Held.{state}
 use Rattle.sqlite.specs.State.{HasCleanDisk}
 use Rattle.sqlite.proofs.StateLemmas.{survives_then, survives_weaker}
 use Rattle.inbox_table.specs.Calls.{MayTake}
-use Rattle.numbers.specs.Counts.{Counts}
 use Rattle.number_table.specs.Calls.{StandsNumbered}
 use Rattle.number_table.proofs.LookLemmas.{looks_then, stands_still}
 use Rattle.number_table.proofs.StandLemmas.{kept, known_one, refused, given_up, was_clean}
