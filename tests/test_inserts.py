@@ -2,7 +2,8 @@
 
 No contract says by which statement an event is put in, or how it is looked for: the answer is the same. So instructions are counted,
 which no load changes. To take a new event has 2.2 times the instructions of checking it; put in alone 2.75 times, and looked for first
-some 4.4. To number an event again takes as many among a thousand others as among two hundred.
+some 4.4. To number an event again takes as many among a thousand others as among two hundred, and fewer than a new one where it
+came lately.
 """
 import re
 import shutil
@@ -50,3 +51,14 @@ def test_what_was_numbered_is_looked_for_by_the_index(program: str, room: Room) 
         more[rows] = instructions(program, f"number --db {rows}.db known", room) - instructions(program, f"number --db {rows}.db none", room)
     ratio = more[1_000] / more[200]
     assert ratio <= 1.5, f"{ratio:.2f} times the instructions where five times as many rows are there"
+
+
+@pytest.mark.slow
+def test_what_was_numbered_lately_is_not_looked_for(program: str, room: Room) -> None:
+    if not shutil.which("valgrind"):
+        pytest.skip("valgrind isn't there")
+    lines = "".join(f'{{"specversion":"1.0","id":"{it:07d}","source":"/s","type":"t"}}\n' for it in range(1_000))
+    room.put({"none": "", "once": lines, "twice": lines * 2})
+    none, once, twice = (instructions(program, f"number --db {it}.db {it}", room) for it in ("none", "once", "twice"))
+    ratio = (twice - once) / (once - none)
+    assert ratio <= 0.6, f"{ratio:.2f} times the instructions of new events"

@@ -124,6 +124,28 @@ def test_each_line_is_answered_while_the_stream_is_open(room: Room) -> None:
         assert ran.wait(LONGEST) == 0
 
 
+def test_what_came_lately_has_its_number(room: Room) -> None:
+    """In one stream, beside what is new and another text of one id; and in the next stream, where the first was killed."""
+    one, other, more = seen("g", source="/g"), seen("g", source="/g", subject="x"), seen("h", source="/g")
+    turns = (
+        ([one], [1]),
+        ([one], [1]),
+        ([other, one], [2, 1]),
+        ([one, more, other, more], [1, 3, 2, 3]),
+        ([more], [3]),
+    )
+    for given in (turns, turns[1:]):
+        with room.start("exec site number --db g.db", stdin=subprocess.PIPE) as ran:
+            assert ran.stdin and ran.stdout
+            for events, numbers_of_them in given:
+                ran.stdin.write(lines(batch(*events) if len(events) > 1 else events[0]).encode())
+                ran.stdin.flush()
+                answered = numbers_in(text_of(ran.stdout.readline()))
+                assert [int(number) for _, number in answered] == numbers_of_them
+            ran.kill()
+    assert room.run("site cover --db g.db").out == '{"sources":{"/g":[[1,3]]},"version":1}\n'
+
+
 def followed(new: int) -> str:
     """What `follow` says of 250 lines of an event each, which are all new or all there."""
     return "".join(acknowledgement(it, new, 1 - new) for it in range(1, 251))
