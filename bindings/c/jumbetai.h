@@ -292,7 +292,7 @@ typedef struct jumbetai_numbers jumbetai_numbers;
  * made, opened and kept busy as by jumbetai_open_file, with a cache of the same kind, and a process
  * that was forked leaves it alone. Time in proportion to its events, and memory until they are
  * counted; what stays, beside the cache and some bytes for each page of the file, is the last
- * number of each source and 1 to 20 MiB. `*numbers` is null where it isn't done. */
+ * number of each source and 1 to 17 MiB. `*numbers` is null where it isn't done. */
 int jumbetai_open_numbers(const char *path, uint32_t cache_mib, uint64_t base,
                           jumbetai_numbers **numbers);
 

@@ -70,10 +70,10 @@ fn look_up<S: Alter + Drop>(
     ensures learns { HasCleanDisk (state S.Store table.new.conn) → OnOk result (LearnsNumbers
         (event.now ∷ []) (state S.Store table.old.conn) counted.now known.old known.new) }
 {
-    if let Some(_number) = known.number_of(event.text()) {
+    if !counted.may_have(event.text()) {
         return Ok(());
     }
-    if !counted.may_have(event.text()) {
+    if let Some(_number) = known.number_of(event.text()) {
         return Ok(());
     }
     let rows = match table.find(event.source(), event.id()) {

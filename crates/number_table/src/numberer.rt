@@ -23,7 +23,7 @@ use std::alloc::Global;
 
 /// A numberer over its table, whose rows are the events that it numbered, with their numbers: a
 /// site's table. Memory for the last number of each source, for a filter of 1 to 16 MiB, and for the
-/// texts that came lately, up to 4 MiB.
+/// texts that came lately, up to 1 MiB.
 #[derive(Drop)]
 pub struct Numberer<S: Alter> {
     pub table: Table<S>,

@@ -1,5 +1,5 @@
 -- Counts of a list that grows.
-use Rattle.std.proofs.Common.{◌≡◌, ℕ, zero, suc, ◌+◌, ◌<◌, List, [], ◌∷◌, ◌++◌, length, take, slice_get, Bool, true, false, cond, ◌||◌, bytes_eq, if◌then◌else◌, Some, None, unwrap_or, refl, sym, ap, ap₂, subst, ◌∙◌, arith, true≢false, is_eq}
+use Rattle.std.proofs.Common.{◌≡◌, ◌⊎◌, inl, inr, ℕ, zero, suc, ◌+◌, ◌<◌, List, [], ◌∷◌, ◌++◌, length, take, slice_get, Bool, true, false, cond, ◌||◌, bytes_eq, if◌then◌else◌, Some, None, unwrap_or, refl, sym, ap, ap₂, subst, ◌∙◌, arith, true≢false, is_eq}
 use Rattle.std.specs.declared.cmp.Ordering.{Ordering}
 use Rattle.std.specs.declared.cmp.Ordering.TheVariants.{Less, Equal, Greater}
 use Rattle.std.specs.Ordering.{ordering_then}
@@ -109,6 +109,15 @@ is_new base A K e none knows = by (has key_cmp A e) (sym knows ∙ none)
     by : (b : Bool) → (if b then Some (number base A e) else None) ≡ None → b ≡ false
     by true is = absurd (cc)
     by false is = refl
+
+-- what surely has no number, or isn't known, has none
+pub none_known : (base : List ℕ → ℕ) (A : List EventValue) (c : Counts) (K : TextNumbers) (e : EventValue) (t : List ℕ) → t ≡ text e → (MayHave c.seen t → ⊥) ⊎ (value_at t K ≡ None) → IsCountOf base A c → Knows base A K e → value_at (text e) K ≡ None
+none_known base A c K e t is (inr none) counts knows = ap (λ u. value_at u K) (sym is) ∙ none
+none_known base A c K e t is (inl never) counts knows = by (has key_cmp A e) refl
+  where
+    by : (b : Bool) → has key_cmp A e ≡ b → value_at (text e) K ≡ None
+    by true there = absurd (never (subst (MayHave c.seen) (sym is) (counts.seen e there)))
+    by false lacks = knows ∙ ap (λ (b : Bool). if b then Some (number base A e) else None) lacks
 
 pub found_step : (base : List ℕ → ℕ) (A : List EventValue) (c : Counts) (K : TextNumbers) (e : EventValue) (n : ℕ) → value_at (text e) K ≡ Some n → Knows base A K e → IsCountOf base A c
     → (n ≡ number base (taken A (e ∷ [])) e) × IsCountOf base (taken A (e ∷ [])) c

@@ -17,7 +17,7 @@ use std::mem;
 
 /// The last number of each source, the number behind which a source begins that has none yet, a
 /// filter of the texts that have numbers, and the numbers of texts that came lately. Memory in
-/// proportion to the sources, 1 MiB to 16 MiB, and 4 MiB.
+/// proportion to the sources, 1 MiB to 16 MiB, and up to 1 MiB.
 #[derive(Drop)]
 pub struct Counted {
     last: BTreeMap<String, Sequence>,
@@ -105,7 +105,7 @@ impl Counted {
     }
 
     /// Leaves these numbers of texts known, in place of those that were, unless they take above
-    /// 4 MiB: then none are.
+    /// 1 MiB: then none are.
     pub fn put_recent(&mut self, known: Known)
         ensures { (self.new ≡ record self.old { recent = known })
             ⊎ (self.new ≡ record self.old { recent = [] }) }

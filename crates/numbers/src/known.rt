@@ -20,7 +20,7 @@ use std::marker::Model;
 const ENTRY_BYTES: u64 = 64;
 
 /// How many bytes of memory are small for `Known`.
-const SMALL_BYTES: u64 = 4_194_304;
+const SMALL_BYTES: u64 = 1_048_576;
 
 /// Numbers of texts. Memory in proportion to the texts.
 #[derive(Drop)]
@@ -104,7 +104,7 @@ impl Known {
         put(self.alloc, &mut self.numbers, text, number)
     }
 
-    /// Whether these numbers of texts take little memory, about 4 MiB at most.
+    /// Whether these numbers of texts take little memory, about 1 MiB at most.
     pub(crate) fn is_small(&self) -> bool {
         self.bytes <= SMALL_BYTES
     }

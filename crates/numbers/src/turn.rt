@@ -1,11 +1,13 @@
 //! The events of a batch, each with its number.
 
-ghost use Rattle.std.specs.Prelude.{◌≡◌, ◌⊎◌, ◌<◌, [], ◌∷◌, ℕ, List, IfErr, IfOk};
+ghost use Rattle.std.specs.Prelude.{◌≡◌, ◌⊎◌, ◌<◌, [], ◌∷◌, ℕ, List, IfErr, IfNone, IfOk, IfSome, None, Some};
 ghost use Rattle.std.specs.List.{AllByRecursion};
 ghost use Rattle.attributes.specs.Event.{EventValue};
 ghost use Rattle.attributes.specs.Fault.{IsEvent};
+ghost use Rattle.attributes.specs.Members.{value_at};
 ghost use Rattle.attributes.specs.Sequence.{max_sequence};
 ghost use Rattle.numbers.specs.Counts.{IsCountOf, KeepsKnown, Knows, KnowsEach, KnowsOnly};
+ghost use Rattle.numbers.specs.Filter.{MayHave};
 ghost use Rattle.numbers.specs.Numbered.{AreBare, AreEachNumbered, HaveNumbers};
 ghost use Rattle.numbers.specs.Numberer.{number, taken};
 ghost use Rattle.numbers.specs.declared.fault.NumberFault.TheVariants.{Full, OutOfMemory};
@@ -16,6 +18,18 @@ use crate::fault::NumberFault;
 use crate::known::Known;
 use attributes::{Batch, Event, Events, Sequence};
 use std::alloc::Global;
+
+/// The number that the text is known with. What surely has none isn't looked for.
+fn number_if_known(counted: &Counted, known: &Known, text: &str) -> Option<Sequence>
+    ensures some { IfSome result (λ n. value_at text.now known.now ≡ Some n) }
+    ensures none { IfNone result ((MayHave counted.now.seen text.now → ⊥)
+        ⊎ (value_at text.now known.now ≡ None)) }
+{
+    if !counted.may_have(text) {
+        return None;
+    }
+    known.number_of(text)
+}
 
 /// The number given to the event, at the index: the one that its text is known with, else its
 /// source's next, which is counted then, and known.
@@ -40,7 +54,7 @@ fn number_of(
         → Knows base A known.old event.now
         → max_sequence < number base (taken A (event.now ∷ [])) event.now))) }
 {
-    if let Some(number) = known.number_of(event.text()) {
+    if let Some(number) = number_if_known(counted, known, event.text()) {
         return Ok(number);
     }
     let Some(number) = counted.next_of(event.source()) else {

@@ -12,7 +12,7 @@ returns-in-Some-clause-looks g c = looks_none (state g.S.Store c.args.table.now.
 
 pub returns-in-Some-clause-learns : goal.returns-in-Some-clause-learns
 returns-in-Some-clause-learns g c clean =
-    known_already c.args.known.now c.args.event.now _ (state g.S.Store c.args.table.now.conn) c.args.counted.now (ap (λ t. value_at t c.args.known.now) (sym c.text.ensures.text) ∙ sym c.in-Some.ensures)
+    known_already c.args.known.now c.args.event.now _ (state g.S.Store c.args.table.now.conn) c.args.counted.now (ap (λ t. value_at t c.args.known.now) (sym c.text-2.ensures.text) ∙ sym c.in-Some.ensures)
 
 pub returns-in_default-found-clause-learns : goal.returns-in_default-found-clause-learns
 returns-in_default-found-clause-learns g c clean =
