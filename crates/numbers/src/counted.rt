@@ -17,7 +17,7 @@ use std::mem;
 
 /// The last number of each source, the number behind which a source begins that has none yet, a
 /// filter of the texts that have numbers, and the numbers of texts that came lately. Memory in
-/// proportion to the sources, 1 MiB to 16 MiB, and up to 1 MiB.
+/// proportion to the sources, for the filter 1 to 16 MiB, and for these texts at most 1 MiB.
 #[derive(Drop)]
 pub struct Counted {
     last: BTreeMap<String, Sequence>,

@@ -26,7 +26,7 @@ const SMALL_BYTES: u64 = 1_048_576;
 #[derive(Drop)]
 pub struct Known {
     numbers: BTreeMap<String, Sequence>,
-    /// At least the memory that they take, about.
+    /// About how much memory they take; a text that is added again counts again.
     bytes: u64,
     alloc: Global,
 }

@@ -80,7 +80,8 @@ RefusesRead summaries _ = ⊥
 
 -- the sources of the first set are in the second
 abbrev pub KeepsSources : BTreeSet (String Global) → BTreeSet (String Global) → Type 0
-KeepsSources old new = (source : List ℕ) → contains_text old source ≡ true → contains_text new source ≡ true
+KeepsSources old new =
+    (source : List ℕ) → contains_text old source ≡ true → contains_text new source ≡ true
 
 -- the combined summary holds what one of the parts' summaries does
 abbrev pub HoldsUnion : List Sources → Sources → Type 0
