@@ -85,6 +85,27 @@ test_lines_at_fault = rows(
 
 ASIDE, OTHER = "--aside producersequence", refused_lines((1, "event 0: Aside"))
 
+# Values that are escaped, of each kind, and without one; data as JSON and as bytes. A null is none.
+KINDS: tuple[dict[str, object], ...] = (
+    {"subject": 'a "quoted\\" one, Gr\u00f6\u00dfe', "partitionkey": "\u2028 /"},
+    {"expired": True, "hops": -2147483648, "zulu": False},
+    {"data": {"": [1, -2, {"a": None, "b": '"\\\u00e9\u001f'}, []], "z": 9223372036854775807}},
+    {"data": "a text"},
+    {"data": 0},
+    {"data": None},
+    {"data_base64": "AP8/"},
+    {"data_base64": ""},
+)
+GIVEN = [seen(at, None, "/k", **more) for at, more in enumerate(KINDS)]
+GOT = [seen(at, at + 1, "/k", **{name: it for name, it in more.items() if it is not None}) for at, more in enumerate(KINDS)]
+
+# All else of an event is as it was given.
+test_every_kind_of_value = rows(
+    {},
+    *(numbers(f"value {at}", lines(given), page(got), db="k.db") for at, (given, got) in enumerate(zip(GIVEN, GOT))),
+    numbers("all of them again", lines(batch(*GIVEN)), page(*GOT), db="k.db"),
+)
+
 # A number that a producer set goes by another name, where one is given.
 test_numbers_that_are_set_aside = rows(
     {},

@@ -88,7 +88,7 @@ fn spanned(text: &str, span: Span) -> &str
 }
 
 /// The name of the attribute of a place in an event's kept string.
-fn name_at<'a>(text: &'a str, aside: &'a str, place: Place) -> &'a str
+pub(crate) fn name_at<'a>(text: &'a str, aside: &'a str, place: Place) -> &'a str
     requires { IsPlace text.now aside.now place }
     ensures { result.now ≡ place_name text.now aside.now place }
 {

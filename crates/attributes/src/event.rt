@@ -12,7 +12,7 @@ ghost use Rattle.attributes.specs.steps.Kept.{TellsTree};
 ghost use Rattle.attributes.specs.steps.Place.{IsBody, attributes_in, id_in, kind_in, payload_in, source_in, text_of};
 ghost use Rattle.attributes.specs.Event.{Lends, scalar_of, attribute_of, content_of, day_of, event_of, id_of, kind_of, scalars_of, source_of, subject_of, text, time_of, view_of, words_of, words_or_empty};
 ghost use Rattle.attributes.specs.Time.{time_day};
-ghost use Rattle.attributes.specs.Fault.{IsEvent, fault, has_whole_numbers, is_shallow, max_text, member_fault, offered_of, payload_fault};
+ghost use Rattle.attributes.specs.Fault.{IsEvent, fault, has_whole_numbers, is_shallow, max_text, member_fault, offered_of, parts_of, payload_fault};
 ghost use Rattle.attributes.specs.declared.fault.Fault.TheVariants.{OutOfMemory, TooLarge};
 
 use crate::body::{Attribute, Body, place_in, value_of};
@@ -20,7 +20,7 @@ use crate::canonical::{canonical, sealed};
 use crate::content::{Content, Kept, Offered, Payload};
 use crate::fault::Fault;
 use crate::list::List;
-use crate::parts::Parts;
+use crate::parts::{Parts, attribute_parts, offer_from};
 use crate::scalar::{Given, Scalar};
 use crate::time::day_in;
 use crate::validation::{first_member_fault, first_payload_fault, words_at, words_or_empty_at};
@@ -242,6 +242,22 @@ impl Event {
             Kept::Json => Payload::Json(self.body.payload()),
             Kept::Bytes(bytes) => Payload::Bytes(bytes.as_bytes()),
         }
+    }
+
+    /// The event's parts, of which [`Event::build`] makes an equal event: to make one that differs
+    /// in some. Time and memory in proportion to its text.
+    pub fn parts(&self, alloc: Global) -> Result<Parts, AllocError>
+        ensures parts { IfOk result (λ p. p ≡ parts_of self.now) }
+        ensures event { IsEvent self.now }
+    {
+        let mut parts = attribute_parts(
+            alloc,
+            self.body.text(),
+            self.body.aside(),
+            self.body.places.as_slice(),
+        )?;
+        parts.offer(offer_from(alloc, self.body.payload(), &self.kept)?);
+        Ok(parts)
     }
 
     /// An event value that is equal. Time and memory in proportion to its text.

@@ -12,7 +12,7 @@ ghost use Rattle.numbers.specs.Numbered.{HasNumber, IsBare, with_sequence};
 
 use crate::batch::refusal_at;
 use attributes::laws::text_reads_back;
-use attributes::{Event, Events, Sequence, Sequenced};
+use attributes::{Event, Events, Given, Sequence, Sequenced};
 use event_json::{ReadFault, read_events, readings_are_one, texts_read_back};
 use serde_json::{Map, Value};
 use std::alloc::{AllocError, Global};
@@ -93,13 +93,10 @@ pub fn numbered(alloc: Global, event: &Event, number: Sequence) -> Result<Sequen
     ensures numbered { IfOk result (HasNumber number event.now) }
     ensures event { IfOk result IsEvent }
 {
-    readings_are_one();
-    texts_read_back();
-    let text = numbered_text(alloc, event, number)?;
-    let Ok(events) = read_events(alloc, text.as_bytes()) else {
-        return Err(AllocError);
-    };
-    let Some(event) = single(events) else {
+    let mut parts = event.parts(alloc)?;
+    let digits = number.digits(alloc)?;
+    parts.set("sequence", Given::Words(digits))?;
+    let Ok(event) = Event::build(parts) else {
         return Err(AllocError);
     };
     match Sequenced::of(event) {
