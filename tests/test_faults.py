@@ -133,32 +133,48 @@ test_cuts = rows(
     *(refuses(f"the first {it} bytes of a batch", "site cover cut.json", "cut.json: not JSON", files={"cut.json": TWO[:it]}) for it in range(len(TWO))),
 )
 
+CUT = "a file is one JSON text in UTF-8; where events stand one a line, --lines reads them so, or jq -s . makes one"
 OWN = "number gives an event its sequence: take keeps the one that it has, or --aside NAME puts it by"
 BARE = event("a1", None)
 
-# What `number` would refuse, the first fault of a file or a line.
+
+def numbered(file: str, index: int) -> str:
+    """The line on an event of the id a1 that has a number, or a sequence that is none."""
+    return fault(file=file, index=index, id="a1", fault="HasSequence", hint=OWN)
+
+
+# What `number` would refuse: each event that it can't number, or, where some are none, each member that is no event.
 test_for_number = rows(
     {
         "bare": BARE,
         "bare.lines": lines(BARE, "", batch(BARE, event("b", None))),
         "own": batch(BARE, FIRST),
-        "old": batch(BARE, event("b", None).replace('"1.0"', '"0.3"'), FIRST),
+        "both": batch(FIRST, BARE, SHORT),
+        "old": batch(BARE, event("b", None).replace('"1.0"', '"0.3"'), FIRST, "3"),
+        "cut": f"[{BARE}",
         "bad.lines": lines(BARE, "3", batch(BARE, SHORT)),
         "large": event("a1", None, data="x" * 262_060),
     },
     answers("events without a number", "site check --numbers bare"),
     answers("lines of them", "site check --lines --numbers bare.lines bare"),
-    finds("a number", "site check --numbers bare own", fault(file="own", fault="event 1: HasSequence", hint=OWN)),
-    finds("the reader's fault comes first", "site check --numbers old", fault(file="old", fault="event 1: SpecVersion", hint=TEN)),
+    finds("a number", "site check --numbers bare own", numbered("own", 1)),
+    finds("each number, or what is none", "site check --numbers both", numbered("both", 0) + numbered("both", 2)),
+    finds(
+        "members that are no events come first",
+        "site check --numbers old",
+        fault(file="old", index=1, id="b", fault="SpecVersion", attribute="specversion", value="0.3", hint=TEN)
+        + fault(file="old", index=3, fault="SpecVersion", attribute="specversion", hint=TEN),
+    ),
+    finds("no JSON", "site check --numbers cut", fault(file="cut", fault="not JSON", hint=CUT)),
     finds(
         "two lines",
         "site check --numbers --lines bad.lines",
-        fault(file="bad.lines line 2", fault="not an event or a batch", hint=WHOLE) + fault(file="bad.lines line 3", fault="event 1: HasSequence", hint=OWN),
+        no_batch("bad.lines line 2") + numbered("bad.lines line 3", 1),
     ),
     finds(
         "no room for a number",
         "site check --numbers large",
-        fault(file="large", fault="event 0: TooLarge", hint="with its number an event has at most 262,144 bytes; keep large data elsewhere"),
+        fault(file="large", index=0, id="a1", fault="TooLarge", hint="with its number an event has at most 262,144 bytes; keep large data elsewhere"),
     ),
     answers("what number then takes", "site number --db n.db bare.lines | wc -l", "2\n"),
     refuses("a file that is not there, either", "site check --numbers none bare", "none: cannot read"),

@@ -1,3 +1,4 @@
 pub mod LineLemmas
 pub mod QuietLemmas
+pub mod ReadingLemmas
 pub mod PlaceLemmas

@@ -101,3 +101,36 @@ TellsWhole name b text = (why : ReadFault) × RefusesWhole b why
 -- what is said in lines of the file of that name and these bytes
 abbrev pub IsFaultText : List ℕ → List ℕ → List ℕ → Type 0
 IsFaultText name b text = TellsMembers name b text ⊎ TellsWhole name b text
+
+-- ---- of what needs no numbers
+
+-- an event is at fault for its number alone: it has none, or what it has is none
+abbrev pub is_of_number : Fault → Bool
+is_of_number fault.NoSequence = true
+is_of_number fault.BadSequence = true
+is_of_number why = false
+
+-- the line of a file's member that is no event; none where its number alone is at fault
+abbrev pub reading_line : List ℕ → FaultyMember → List ℕ
+reading_line file m = if is_of_number m.fault then [] else member_line file m
+
+-- a line for each member of a file that is no event
+abbrev pub reading_lines : List ℕ → List FaultyMember → List ℕ
+reading_lines file told = flat_map (λ m. reading_line file m) told
+
+-- the file's bytes are JSON, and the text has a line for each member that is no event
+abbrev pub TellsNoEvents : List ℕ → List ℕ → List ℕ → Type 0
+TellsNoEvents name b text = (told : List FaultyMember) × TellsFaulty b told
+    × (text ≡ reading_lines (string_text name) told)
+
+-- what is said in lines of the file of that name and these bytes, whose events need no numbers
+abbrev pub IsReadingText : List ℕ → List ℕ → List ℕ → Type 0
+IsReadingText name b text = TellsNoEvents name b text ⊎ TellsWhole name b text
+
+-- the line of a file's event, where file and id are JSON strings, with the words for its fault and
+-- for what to do
+abbrev pub event_line : List ℕ → ℕ → List ℕ → List ℕ → List ℕ → List ℕ
+event_line file index id words hint =
+    codes "{\"file\":" ++ (file ++ (codes ",\"index\":" ++ (decimal index ++ (codes ",\"id\":" ++ (id
+    ++ (codes ",\"fault\":\"" ++ (words ++ (codes "\",\"hint\":\"" ++ (hint
+    ++ (codes "\"}" ++ 10 ∷ []))))))))))

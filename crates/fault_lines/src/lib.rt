@@ -7,6 +7,5 @@ mod member;
 mod place;
 mod words;
 
-pub use laws::good_files_are_quiet;
-pub use line::{fault_lines, whole_line};
-pub use words::{fault_name, hint, whole_hint};
+pub use laws::{events_are_quiet, good_files_are_quiet};
+pub use line::{event_line, fault_lines, reading_fault_lines};

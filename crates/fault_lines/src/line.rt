@@ -6,7 +6,7 @@ ghost use Rattle.serde_json.specs.View.{view};
 ghost use Rattle.serde_json.specs.Written.{has_float};
 ghost use Rattle.event_json.specs.Faulty.{member_of};
 ghost use Rattle.fault_lines.specs.Member.{member_at_fault};
-ghost use Rattle.fault_lines.specs.Lines.{IsFaultText, attribute_and_value, whole_file_line, id_member, id_of_member, if_short, is_plain_value, line_with, member_line, member_lines, place_at_fault, pointer_member, string_text, value_member, where_members};
+ghost use Rattle.fault_lines.specs.Lines.{IsFaultText, IsReadingText, attribute_and_value, event_line, is_of_number, reading_lines, whole_file_line, id_member, id_of_member, if_short, is_plain_value, line_with, member_line, member_lines, place_at_fault, pointer_member, string_text, value_member, where_members};
 
 use crate::member::member_at_fault;
 use crate::place::place;
@@ -36,6 +36,20 @@ pub fn fault_lines(alloc: Global, name: &Text, bytes: &[u8]) -> Result<Text, All
     Ok(Text::from_string(text))
 }
 
+/// As [`fault_lines`], of events that need no numbers: nothing is told of a member whose number
+/// alone is at fault. None where all are events.
+pub fn reading_fault_lines(alloc: Global, name: &Text, bytes: &[u8]) -> Result<Text, AllocError>
+    ensures { IfOk result (IsReadingText name.now bytes.now) }
+{
+    let file = string_text(alloc, name.as_str())?;
+    let text = match read_faulty(alloc, bytes) {
+        Ok(members) => reading_lines(alloc, file.as_str(), members.as_slice())?,
+        Err(ReadFault::OutOfMemory) => return Err(AllocError),
+        Err(fault) => file_line(alloc, file.as_str(), fault)?,
+    };
+    Ok(Text::from_string(text))
+}
+
 /// A text as a JSON string, for a line about a file at fault.
 fn string_text(alloc: Global, words: &str) -> Result<String, AllocError>
     ensures { IfOk result (λ text. string_bytes text ≡ string_text words.now) }
@@ -44,14 +58,25 @@ fn string_text(alloc: Global, words: &str) -> Result<String, AllocError>
     value.to_string(alloc)
 }
 
-/// The line that tells that the file of that name is refused as a whole, with the words for the fault
-/// and for what to do, which stand in JSON strings as they are. Time and memory in proportion to
-/// them.
-pub fn whole_line(alloc: Global, name: &Text, words: &str, hint: &str) -> Result<Text, AllocError>
-    ensures { IfOk result (λ text. text ≡ line_with (string_text name.now) words.now hint.now) }
+/// The line that tells of the event at the index of the file of that name, with the words for its
+/// fault and for what to do, which stand in JSON strings as they are. Time and memory in proportion
+/// to them.
+pub fn event_line(
+    alloc: Global,
+    name: &Text,
+    index: u64,
+    id: &str,
+    words: &str,
+    hint: &str,
+) -> Result<Text, AllocError>
+    ensures { IfOk result (λ text. text
+        ≡ event_line (string_text name.now) index (string_text id.now) words.now hint.now) }
 {
     let file = string_text(alloc, name.as_str())?;
-    let line = line_with(alloc, file.as_str(), words, hint)?;
+    let id = string_text(alloc, id)?;
+    let line = format!(in alloc;
+        "{{\"file\":{file},\"index\":{index},\"id\":{id},\"fault\":\"{words}\",\"hint\":\"{hint}\"}}\n"
+    )?;
     Ok(Text::from_string(line))
 }
 
@@ -82,6 +107,28 @@ fn member_lines(alloc: Global, file: &str, members: &[Faulty]) -> Result<String,
     for member in members {
         let line = member_line(alloc, file, member)?;
         out.push_str(line.as_str())?;
+    }
+    Ok(out)
+}
+
+/// Whether an event's fault is of its number alone.
+fn is_of_number(fault: Fault) -> bool
+    ensures { result ≡ is_of_number fault }
+{
+    matches!(fault, Fault::NoSequence | Fault::BadSequence)
+}
+
+/// The fault lines of a file's members that are no events.
+fn reading_lines(alloc: Global, file: &str, members: &[Faulty]) -> Result<String, AllocError>
+    ensures { IfOk result (λ text.
+        string_bytes text ≡ reading_lines file.now (map member_of members.now)) }
+{
+    let mut out = String::new(alloc);
+    for member in members {
+        if !is_of_number(member.fault) {
+            let more = member_line(alloc, file, member)?;
+            out.push_str(more.as_str())?;
+        }
     }
     Ok(out)
 }

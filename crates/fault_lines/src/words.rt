@@ -8,7 +8,7 @@ use attributes::Fault;
 use event_json::ReadFault;
 
 /// The name of an event's fault, as it is printed in a line about a file.
-pub fn fault_name<'a>(fault: Fault) -> &'a str
+pub(crate) fn fault_name<'a>(fault: Fault) -> &'a str
     ensures { result.now ≡ fault_name fault }
 {
     match fault {
@@ -34,7 +34,7 @@ pub fn fault_name<'a>(fault: Fault) -> &'a str
 }
 
 /// The member to tell in a fault's line, where the fault is always of the same one.
-pub fn attribute_name<'a>(fault: Fault) -> Option<&'a str>
+pub(crate) fn attribute_name<'a>(fault: Fault) -> Option<&'a str>
     ensures { option_copied result ≡ attribute_name fault }
 {
     match fault {
@@ -60,7 +60,7 @@ pub fn attribute_name<'a>(fault: Fault) -> Option<&'a str>
 }
 
 /// What to do about the fault of an event, in words of people, for a line about a file.
-pub fn hint<'a>(fault: Fault) -> &'a str
+pub(crate) fn hint<'a>(fault: Fault) -> &'a str
     ensures { result.now ≡ hint fault }
 {
     match fault {
@@ -94,7 +94,7 @@ pub fn hint<'a>(fault: Fault) -> &'a str
 }
 
 /// Why a file's bytes are refused as a whole, for its line.
-pub fn whole_words<'a>(fault: ReadFault) -> &'a str
+pub(crate) fn whole_words<'a>(fault: ReadFault) -> &'a str
     ensures { result.now ≡ whole_words fault }
 {
     match fault {
@@ -107,7 +107,7 @@ pub fn whole_words<'a>(fault: ReadFault) -> &'a str
 }
 
 /// What to do about a file's bytes that are refused as a whole, in words of people, for its line.
-pub fn whole_hint<'a>(fault: ReadFault) -> &'a str
+pub(crate) fn whole_hint<'a>(fault: ReadFault) -> &'a str
     ensures { result.now ≡ whole_hint fault }
 {
     match fault {

@@ -14,5 +14,4 @@ pub use over::{NumberedStream, number_over};
 pub use refusal::{LineRefusal, Told};
 pub use stream::{NumberingFault, number_gathered, number_lines};
 pub use text::{fault_text, numbered_text};
-pub use turn::{Gathered, Part, gather, refusal_of};
-pub use words::words_of;
+pub use turn::{Gathered, Part, gather};

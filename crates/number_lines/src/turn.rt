@@ -113,21 +113,6 @@ fn judge(alloc: Global, line: &Octets, aside: &Option<Text>) -> Result<Judged, A
     }
 }
 
-/// Why nothing of these bytes, as of a line, would be numbered where sources have numbers left; none
-/// where each of their events would be. With a name in `aside` an event's own `sequence` is kept by
-/// that name. Time and memory in proportion to the bytes.
-pub fn refusal_of(
-    alloc: Global,
-    bytes: &Octets,
-    aside: &Option<Text>,
-) -> Result<Option<LineRefusal>, AllocError>
-    ensures { IfOk result (λ o.
-        (events : List EventValue) × IsJudgedToNumber aside.now bytes.now o events) }
-{
-    let judged = judge(alloc, bytes, aside)?;
-    Ok(judged.fault)
-}
-
 /// A line to be numbered that is refused.
 fn refuse(alloc: Global, fault: LineRefusal) -> Judged
     ensures fault { result.fault ≡ Some fault }

@@ -30,7 +30,7 @@ fn number_words(alloc: Global, fault: NumberFault) -> Result<String, AllocError>
 }
 
 /// The words of why a line isn't numbered; those of bytes that spell no events are as of a file.
-pub fn words_of(alloc: Global, refusal: LineRefusal) -> Result<String, AllocError>
+pub(crate) fn words_of(alloc: Global, refusal: LineRefusal) -> Result<String, AllocError>
     ensures { IfOk result (λ words. string_bytes words ≡ words_of_refusal refusal) }
 {
     match refusal {

@@ -13,8 +13,9 @@ use attributes::{Event, Events};
 /// event's.
 pub const MAX_BARE_TEXT: u64 = 262_110;
 
-/// Why the event, at the index of a batch, can't be numbered.
-pub(crate) fn refusal_at(index: u64, event: &Event) -> Option<NumberFault>
+/// Why the event, at the index of a batch, can't be numbered: `HasSequence` or `TooLarge`. Time in
+/// proportion to its names.
+pub fn refusal_at(index: u64, event: &Event) -> Option<NumberFault>
     ensures value { result ≡ refusal_at index event.now }
     ensures event { IfNone result (IsEvent event.now) }
 {

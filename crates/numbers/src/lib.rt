@@ -14,7 +14,7 @@ pub mod laws;
 mod turn;
 
 pub use aside::set_aside;
-pub use batch::{MAX_BARE_TEXT, refusal};
+pub use batch::{MAX_BARE_TEXT, refusal, refusal_at};
 pub use count::count_all;
 pub use counted::Counted;
 pub use event::{bare, numbered};

@@ -10,3 +10,4 @@ mod SplitLemmas
 mod StreamLemmas
 mod WorkerLemmas
 mod NumberLemmas
+mod RefusalLemmas

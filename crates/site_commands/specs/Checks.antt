@@ -1,22 +1,20 @@
 -- What a check of files and a database comes to. C says what a name is read as, U why a name isn't
 -- read.
-use Rattle.std.specs.Prelude.{◌≡◌, ◌≢◌, ◌⊎◌, ℕ, Bool, true, false, List, [], ◌∷◌, ◌++◌, codes, Option, None, Some}
-use Rattle.attributes.specs.Event.{EventValue}
+use Rattle.std.specs.Prelude.{◌≡◌, ◌≢◌, ◌⊎◌, ℕ, suc, Bool, true, false, List, [], ◌∷◌, ◌++◌, codes, Option, None, Some}
+use Rattle.attributes.specs.Event.{EventValue, id_of}
 use Rattle.command_words.specs.declared.request.Check.{Check}
 use Rattle.databases.specs.Described.{SaysDatabase}
 use Rattle.databases.specs.Name.{IsNoFile}
 use Rattle.databases.specs.Trouble.{trouble_line}
 use Rattle.databases.specs.declared.trouble.Trouble.{Trouble}
 use Rattle.databases.specs.declared.trouble.Trouble.TheVariants.{NoFile, OutOfMemory}
-use Rattle.event_json.specs.declared.fault.ReadFault.TheVariants as read
-use Rattle.fault_lines.specs.Lines.{IsFaultText, line_with, string_text}
-use Rattle.fault_lines.specs.Words.{hint, whole_hint}
+use Rattle.event_json.specs.Reading.{Reads, Refuses}
+use Rattle.event_json.specs.declared.fault.ReadFault.{ReadFault}
+use Rattle.fault_lines.specs.Lines.{IsFaultText, IsReadingText, event_line, string_text}
 use Rattle.event_files.specs.Shelves.{AreContents, IsUnreadAt}
 use Rattle.event_files.specs.declared.input.Unread.{Unread}
-use Rattle.number_lines.specs.Judged.{IsJudgedToNumber}
-use Rattle.number_lines.specs.Words.{words_of_refusal}
-use Rattle.number_lines.specs.declared.refusal.LineRefusal.{LineRefusal}
-use Rattle.number_lines.specs.declared.refusal.LineRefusal.TheVariants as line
+use Rattle.numbers.specs.Refusal.{refusal_at, refusal_from}
+use Rattle.numbers.specs.declared.fault.NumberFault.{NumberFault}
 use Rattle.numbers.specs.declared.fault.NumberFault.TheVariants as number
 use Rattle.site_commands.specs.Lines.{line_names, line_of}
 use Rattle.site_commands.specs.Names.{of_check}
@@ -27,34 +25,63 @@ use Rattle.site_commands.specs.declared.line.Refusal.{Refusal}
 use Rattle.site_commands.specs.declared.line.Refusal.TheVariants as refusal
 use Rattle.site_commands.specs.declared.pieces.LineAt.{LineAt}
 
+-- the name of a refusal of `number`, as it is printed
+abbrev pub number_fault_name : NumberFault → List ℕ
+number_fault_name number.OutOfMemory = codes "OutOfMemory"
+number_fault_name (number.HasSequence index) = codes "HasSequence"
+number_fault_name (number.TooLarge index) = codes "TooLarge"
+number_fault_name (number.Full index) = codes "Full"
+
 -- the hint on what to do about a refusal of `number`
-abbrev pub number_hint : LineRefusal → List ℕ
-number_hint (line.Read (read.BadEvent index why)) = hint why
-number_hint (line.Read why) = whole_hint why
-number_hint (line.Number number.OutOfMemory) = codes "memory ran out"
-number_hint (line.Number (number.HasSequence index)) =
+abbrev pub number_hint : NumberFault → List ℕ
+number_hint number.OutOfMemory = codes "memory ran out"
+number_hint (number.HasSequence index) =
     codes "number gives an event its sequence: take keeps the one that it has, or --aside NAME puts it by"
-number_hint (line.Number (number.TooLarge index)) =
+number_hint (number.TooLarge index) =
     codes "with its number an event has at most 262,144 bytes; keep large data elsewhere"
-number_hint (line.Number (number.Full index)) =
+number_hint (number.Full index) =
     codes "the source has no number left up to 9223372036854775807"
-number_hint (line.Aside index) = codes "its sequence can't stand under that name"
 
--- the line of `check` on why `number` refuses what has this name; none where it doesn't
-abbrev pub refusal_line : List ℕ → Option LineRefusal → List ℕ
-refusal_line name None = []
-refusal_line name (Some why) = line_with (string_text name) (words_of_refusal why) (number_hint why)
+-- the line of `check` on the event at the index, of what has this name, that `number` refuses
+abbrev pub refusal_line : List ℕ → ℕ → EventValue → NumberFault → List ℕ
+refusal_line name index e why =
+    event_line (string_text name) index (string_text (id_of e)) (number_fault_name why) (number_hint why)
 
--- the text is `check`'s line on why `number` refuses the bytes, which have this name, or none
-abbrev pub TellsRefusal : List ℕ → List ℕ → List ℕ → Type 0
-TellsRefusal name bytes text = (why : Option LineRefusal)
-    × ((events : List EventValue) × IsJudgedToNumber None bytes why events) × (text ≡ refusal_line name why)
+-- before other lines, that on the event at the index where `number` refuses it
+abbrev pub with_refusal : List ℕ → ℕ → EventValue → Option NumberFault → List ℕ → List ℕ
+with_refusal name index e None lines = lines
+with_refusal name index e (Some why) lines = refusal_line name index e why ++ lines
+
+-- a line for each of the events that `number` refuses, of which the first has this index
+abbrev pub refusal_lines : List ℕ → ℕ → List EventValue → List ℕ
+refusal_lines name index [] = []
+refusal_lines name index (e ∷ es) =
+    with_refusal name index e (refusal_at index e) (refusal_lines name (suc index) es)
+
+-- the bytes, which have this name, spell events, and the text has `check`'s line on each that
+-- `number` refuses
+abbrev pub TellsRefusals : List ℕ → List ℕ → List ℕ → Type 0
+TellsRefusals name bytes text = (events : List EventValue) × Reads bytes events
+    × (text ≡ refusal_lines name 0 events)
+
+-- the bytes, which have this name, spell no events, and the text says why
+abbrev pub TellsUnread : List ℕ → List ℕ → List ℕ → Type 0
+TellsUnread name bytes text = (why : ReadFault) × Refuses bytes why × IsReadingText name bytes text
+
+-- the text has the lines of `check` on what `number` refuses in the bytes, which have this name
+abbrev pub TellsForNumber : List ℕ → List ℕ → List ℕ → Type 0
+TellsForNumber name bytes text = TellsRefusals name bytes text ⊎ TellsUnread name bytes text
+
+-- `number` takes the bytes, where sources have numbers left: they spell events that it can number
+abbrev pub CanBeNumbered : List ℕ → Type 0
+CanBeNumbered bytes = (events : List EventValue) × Reads bytes events
+    × (refusal_from 0 events ≡ None)
 
 -- the text has the lines of `check` on what is at fault in the bytes, which have this name: as
 -- sites take them, or as `number` does
 abbrev pub IsFaultOf : Bool → List ℕ → List ℕ → List ℕ → Type 0
 IsFaultOf false name bytes text = IsFaultText name bytes text
-IsFaultOf true name bytes text = TellsRefusal name bytes text
+IsFaultOf true name bytes text = TellsForNumber name bytes text
 
 -- the text has these lines of `check` on files' contents, file by file, one content for each name
 abbrev pub AreFaultsOf : Bool → List (List ℕ) → List (List ℕ) → List ℕ → Type 0

@@ -10,7 +10,7 @@ use crate::line::Refusal;
 use crate::names::Names;
 use crate::pieces::{Pieces, line_names, read_pieces};
 use crate::progress::Progress;
-use crate::refusal::refusal_line;
+use crate::refusal::number_fault_lines;
 use attributes::{Octets, Text};
 use command_words::Check;
 use databases::{Databases, Trouble, trouble_line};
@@ -198,7 +198,7 @@ fn lines_in(
     ensures { IfOk result (IsFaultOf is_for_number file.now content.now) }
 {
     if is_for_number {
-        return refusal_line(alloc, file, content);
+        return number_fault_lines(alloc, file, content);
     }
     fault_lines(alloc, file, content.as_bytes())
 }

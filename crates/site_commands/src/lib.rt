@@ -30,4 +30,5 @@ pub use hint::Hint;
 pub use line::Refusal;
 pub use pieces::{LineAt, RefusedLine};
 pub use progress::Progress;
+pub use refusal::what_can_be_numbered_is_quiet;
 pub use run::{exit, perform, perform_alone};
