@@ -1,12 +1,13 @@
 #!/usr/bin/env python3
 """Measures `jumbetai.publish()` of contrib/postgresql beside a plain INSERT of as many bytes.
 
-usage: bench/publish.py [--clients N] [--seconds N] [--rounds N] [--prepared] [--unsynced] [--file FILE]
+usage: bench/publish.py [--clients N] [--seconds N] [--rounds N] [--prepared] [--unsynced] [--slow-sync MICROSECONDS] [--file FILE]
 
 Both write into a PostgreSQL of its own, a transaction an event, by pgbench, in turn and so many rounds, each into a
 table without rows. The row that is printed has the transactions a second of each round, and the ratio of the middles.
 The caller gives the event's id in both, as a service does that has one. With --prepared each client prepares its
-statement once and then binds values, as most drivers do.
+statement once and then binds values, as most drivers do. With --slow-sync each sync of the log takes so much longer, as on
+a disk that is slower (PostgreSQL's commit_delay).
 """
 
 import argparse
@@ -63,6 +64,7 @@ def main() -> None:
     words.add_argument("--rounds", type=int, default=5)
     words.add_argument("--prepared", action="store_true", help="each client prepares its statement once")
     words.add_argument("--unsynced", action="store_true", help="commits don't wait for the disk")
+    words.add_argument("--slow-sync", type=int, default=0, metavar="MICROSECONDS", help="how much longer a sync takes, up to 100,000")
     words.add_argument("--file", default=f"{TOP}/contrib/postgresql/outbox.sql", help="where publish() is")
     given = words.parse_args()
     with tempfile.TemporaryDirectory() as folder:
@@ -77,6 +79,10 @@ def main() -> None:
             postgres.sql("CREATE TABLE plain (place bigserial PRIMARY KEY, source text NOT NULL, event text NOT NULL)")
             if given.unsynced:
                 postgres.sql("ALTER SYSTEM SET synchronous_commit = off")
+                postgres.sql("SELECT pg_reload_conf()")
+            if given.slow_sync:
+                for setting in (f"commit_delay = {given.slow_sync}", "commit_siblings = 0"):
+                    postgres.sql(f"ALTER SYSTEM SET {setting}")
                 postgres.sql("SELECT pg_reload_conf()")
             found: dict[str, list[float]] = {name: [] for name in EACH}
             for _ in range(given.rounds):
