@@ -81,10 +81,10 @@ tree_again (string s) h = refl
 tree_again (array ds) h = refl
 tree_again (object ms) h = refl
 
-content_again : (c : Content) → IsCarried c → content_of (offered_of c) ≡ c
-content_again content.Nothing h = refl
-content_again (content.Tree d) h = tree_again d h.0
-content_again (content.Bytes b) h = refl
+pub offered_again : (c : Content) → IsCarried c → content_of (offered_of c) ≡ c
+offered_again content.Nothing h = refl
+offered_again (content.Tree d) h = tree_again d h.0
+offered_again (content.Bytes b) h = refl
 
 pub event_again : (e : EventValue) → IsEvent e → event_of (parts_of e) ≡ e
-event_again e h = ap₂ (λ a c. record { attributes = a; content = c }) (scalars_again e.attributes) (content_again e.content h.carried)
+event_again e h = ap₂ (λ a c. record { attributes = a; content = c }) (scalars_again e.attributes) (offered_again e.content h.carried)

@@ -19,6 +19,7 @@ use Rattle.attributes.specs.declared.scalar.Given.{Given}
 use Rattle.attributes.specs.declared.scalar.Given.TheVariants as given
 use Rattle.attributes.specs.declared.content.Offered.{Offered}
 use Rattle.attributes.specs.declared.content.Offered.TheVariants as offered
+use Rattle.attributes.specs.declared.fault.Fault.TheVariants.{TooLarge}
 use Rattle.attributes.proofs.BoolLemmas.{and_parts, not_true}
 
 passes : (b : Bool) (f : Fault) (rest : Option Fault) → (if b then rest else Some f) ≡ None → (b ≡ true) × (rest ≡ None)
@@ -60,6 +61,9 @@ pub fault-None : (p : OfferValue) → member_fault p.members ≡ None → payloa
 fault-None p h k short =
     let fits : nat_lt max_text (length (text (event_of p))) ≡ false = grind (arith, nat_tests) in
     rw (h, k, fits) refl
+
+pub fault-TooLarge : (p : OfferValue) → member_fault p.members ≡ None → payload_fault p.offered ≡ None → nat_lt max_text (length (text (event_of p))) ≡ true → fault p ≡ Some TooLarge
+fault-TooLarge p h k long = rw (h, k, long) refl
 
 -- ---- parts whose values pass are those of their event
 

@@ -7,7 +7,7 @@ use Rattle.serde_json.specs.Written.{compact_text}
 use Rattle.attributes.specs.Event.{EventValue}
 use Rattle.attributes.specs.Fault.{IsCarried, IsEvent, is_shallow, offered_of, parts_of}
 use Rattle.attributes.specs.steps.Content.{HoldsExact}
-use Rattle.attributes.specs.steps.Kept.{TellsTree, content_in, kept_of, tree_of_read}
+use Rattle.attributes.specs.steps.Kept.{TellsContent, content_in, kept_of, tree_of_read}
 use Rattle.attributes.specs.declared.content.Content.{Content}
 use Rattle.attributes.specs.declared.content.Content.TheVariants as content
 use Rattle.attributes.proofs.FaultLemmas.{depth_passes, no_payload_fault}
@@ -19,7 +19,7 @@ read_again d exact shallow =
     let low : depth d ≤ 120 = grind (arith, nat_tests) in
     read-compact_text d exact (omega (arith, low))
 
-pub content_again : (payload : List ℕ) (c : Content) → TellsTree payload c → HoldsExact c → is_shallow (offered_of c) ≡ true → content_in payload (kept_of c) ≡ c
+pub content_again : (payload : List ℕ) (c : Content) → TellsContent payload c → HoldsExact c → is_shallow (offered_of c) ≡ true → content_in payload (kept_of c) ≡ c
 content_again payload content.Nothing tells exact shallow = refl
 content_again payload (content.Tree d) tells exact shallow = ap (λ (o : Option Data). content.Tree (tree_of_read o)) (ap read tells ∙ read_again d exact shallow)
 content_again payload (content.Bytes b) tells exact shallow = refl

@@ -98,13 +98,30 @@ put_below k l d e ms below = first (byte_cmp k l) (member k d (member l e ms)) (
 -- the members of a content among those of the attributes
 pub with_payload : (c : Content) (there : Bool) (name json new old : List ℕ) (ms : Members) → IsPayload c there name json → ((d : Data) → (there ≡ true → json ≡ compact_text d) → onto new no_members ≡ onto old (pending there name d ms)) → onto new no_members ≡ onto old (with_content c ms)
 with_payload content.Nothing there name json new old ms is h =
-    let none : there ≡ true → json ≡ compact_text null = λ (e : there ≡ true). absurd (true_false (sym e ∙ is)) in
-    h null none ∙ ap (λ (b : Bool). onto old (pending b name null ms)) is
+    let none : there ≡ true → json ≡ compact_text null = λ (e : there ≡ true). absurd (true_false (sym e ∙ is.0)) in
+    h null none ∙ ap (λ (b : Bool). onto old (pending b name null ms)) is.0
 with_payload (content.Tree d) there name json new old ms is h =
     h d (λ e. is.2) ∙ ap₂ (λ (b : Bool) (k : List ℕ). onto old (pending b k d ms)) is.0 is.1
 with_payload (content.Bytes b) there name json new old ms is h =
     let d = string (encode_of standard b) in
     h d (λ e. is.2) ∙ ap₂ (λ (w : Bool) (k : List ℕ). onto old (pending w k d ms)) is.0 is.1
+
+-- a payload that is no member has no text
+pub empty_payload : (c : Content) (there : Bool) (name json : List ℕ) → IsPayload c there name json → there ≡ false → json ≡ []
+empty_payload content.Nothing there name json is none = is.2
+empty_payload (content.Tree d) there name json is none = absurd (true_false (sym is.0 ∙ none))
+empty_payload (content.Bytes b) there name json is none = absurd (true_false (sym is.0 ∙ none))
+
+-- the payload's name is written as it is, and is none of an attribute
+pub plain_payload : (c : Content) (there : Bool) (name json : List ℕ) → IsPayload c there name json → is_plain name ≡ true
+plain_payload content.Nothing there name json is = ap is_plain is.1
+plain_payload (content.Tree d) there name json is = ap is_plain is.1
+plain_payload (content.Bytes b) there name json is = ap is_plain is.1
+
+pub other_payload : (c : Content) (there : Bool) (name json : List ℕ) → IsPayload c there name json → is_name name ≡ false
+other_payload content.Nothing there name json is = ap is_name is.1
+other_payload (content.Tree d) there name json is = ap is_name is.1
+other_payload (content.Bytes b) there name json is = ap is_name is.1
 
 pub laid_whole : (out kept : List ℕ) (attributes : List (List ℕ × Scalar)) (c : Content) → AreNamesInOrder attributes → kept ≡ out ++ 125 ∷ [] → onto out no_members ≡ onto (123 ∷ []) (with_content c (direct attributes)) → kept ≡ compact_text (object (with_content c (with_all no_members attributes)))
 laid_whole out kept attributes c order closed h =

@@ -6,7 +6,7 @@ use Rattle.base64.specs.GeneralPurpose.{IsBytes}
 use Rattle.serde_json.specs.Data.{null, depth}
 use Rattle.serde_json.specs.Written.{has_float}
 use Rattle.attributes.specs.Character.{is_printable, is_filled, is_name}
-use Rattle.attributes.specs.Members.{value_at, AreNamesInOrder}
+use Rattle.attributes.specs.Members.{value_at, with_value, AreNamesInOrder}
 use Rattle.attributes.specs.Time.{time_day}
 use Rattle.attributes.specs.Exact.{IsExact}
 use Rattle.attributes.specs.Event.{EventValue, OfferValue, event_of, text}
@@ -171,6 +171,10 @@ offered_of (content.Bytes b) = offered.Bytes b
 -- the parts that an event is the event of
 abbrev pub parts_of : EventValue → OfferValue
 parts_of e = record { members = given_all e.attributes; offered = offered_of e.content }
+
+-- the parts of an event with this value at the name, in place of the one that was there
+abbrev pub with_given : List ℕ → Given → OfferValue → OfferValue
+with_given name g p = record p { members = with_value name g p.members }
 
 -- an event's data: a tree that isn't null and that some JSON text has, or bytes
 abbrev pub IsCarried : Content → Type 0

@@ -1,26 +1,27 @@
 //! Events, built of parts.
 
-ghost use Rattle.std.specs.Prelude.{◌≡◌, ◌≢◌, ◌↔◌, ◌≤◌, Err, IfErr, IfOk, Some, None, true, codes, length, nat_lt, option_and_then, option_map};
+ghost use Rattle.std.specs.Prelude.{◌≡◌, ◌≢◌, ◌↔◌, ◌≤◌, Err, IfErr, IfOk, Some, None, true, codes, length, nat_lt, option_and_then, option_map, string_bytes};
 ghost use Rattle.std.specs.Option.{option_copied, option_or};
 ghost use Rattle.std.specs.declared.cmp.Ordering.TheVariants.{Equal};
 ghost use Rattle.attributes.specs.Bytes.{byte_cmp};
 ghost use Rattle.attributes.specs.Character.{is_filled};
 ghost use Rattle.std.specs.Str.{IsUtf8};
 ghost use Rattle.attributes.specs.Members.{AreNamesInOrder, named, value_at};
-ghost use Rattle.attributes.specs.steps.Content.{HoldsExact};
-ghost use Rattle.attributes.specs.steps.Kept.{TellsTree};
+ghost use Rattle.attributes.specs.steps.Kept.{IsCarriedBy, content_in};
+ghost use Rattle.attributes.specs.steps.ObjectText.{IsPayloadOf};
 ghost use Rattle.attributes.specs.steps.Place.{IsBody, attributes_in, id_in, kind_in, payload_in, source_in, text_of};
 ghost use Rattle.attributes.specs.Event.{Lends, scalar_of, attribute_of, content_of, day_of, event_of, id_of, kind_of, scalars_of, source_of, subject_of, text, time_of, view_of, words_of, words_or_empty};
 ghost use Rattle.attributes.specs.Time.{time_day};
-ghost use Rattle.attributes.specs.Fault.{IsEvent, fault, has_whole_numbers, is_shallow, max_text, member_fault, offered_of, parts_of, payload_fault};
+ghost use Rattle.attributes.specs.Fault.{IsEvent, fault, max_text, member_fault, parts_of, payload_fault, with_given};
+ghost use Rattle.attributes.specs.declared.content.Content.{Content};
 ghost use Rattle.attributes.specs.declared.fault.Fault.TheVariants.{OutOfMemory, TooLarge};
 
 use crate::body::{Attribute, Body, place_in, value_of};
-use crate::canonical::{canonical, sealed};
+use crate::canonical::{PayloadMember, canonical, payload_again, payload_of, sealed};
 use crate::content::{Content, Kept, Offered, Payload};
 use crate::fault::Fault;
 use crate::list::List;
-use crate::parts::{Parts, attribute_parts, offer_from};
+use crate::parts::{Parts, attribute_parts};
 use crate::scalar::{Given, Scalar};
 use crate::time::day_in;
 use crate::validation::{first_member_fault, first_payload_fault, words_at, words_or_empty_at};
@@ -98,23 +99,21 @@ fn time_day(time: Option<&str>) -> Option<i32>
     }
 }
 
-/// What an event with these members and this content keeps of its text, where that isn't too large.
+/// What an event with these members and this payload keeps of its text, where that isn't too large.
 fn body_of(
     alloc: Global,
     members: &BTreeMap<String, Given>,
-    content: &Content,
+    payload: &PayloadMember,
 ) -> Result<Body, Fault>
     requires members { member_fault (named members.now.entries) ≡ None }
-    requires whole { has_whole_numbers (offered_of content.now) ≡ true }
-    requires shallow { is_shallow (offered_of content.now) ≡ true }
-    ensures text { IfOk result (λ b.
-        text_of b ≡ text (view_of (scalars_of (named members.now.entries)) content.now)) }
+    requires payload { (c : Content) × IsPayloadOf c payload.now }
+    ensures text { IfOk result (λ b. (c : Content) → IsPayloadOf c payload.now
+        → text_of b ≡ text (view_of (scalars_of (named members.now.entries)) c)) }
     ensures short { IfOk result (λ b. length (text_of b) ≤ max_text) }
     ensures utf8 { IfOk result (λ b. IsUtf8 (text_of b)) }
     ensures shows { IfOk result (λ b. attributes_in b ≡ scalars_of (named members.now.entries)) }
     ensures ordered { IfOk result (λ b. AreNamesInOrder (named members.now.entries)) }
-    ensures exact { IfOk result (λ b. HoldsExact content.now) }
-    ensures tells { IfOk result (λ b. TellsTree (payload_in b) content.now) }
+    ensures payload { IfOk result (λ b. payload_in b ≡ string_bytes payload.now.json) }
     ensures body { IfOk result (λ b. IsBody b) }
     ensures source { IfOk result (λ b. source_in b ≡ words_or_empty
         (value_at (codes "source") (scalars_of (named members.now.entries)))) }
@@ -122,17 +121,38 @@ fn body_of(
         (value_at (codes "id") (scalars_of (named members.now.entries)))) }
     ensures kind { IfOk result (λ b. kind_in b ≡ words_or_empty
         (value_at (codes "type") (scalars_of (named members.now.entries)))) }
-    ensures refused { IfErr result (λ f. f ≢ OutOfMemory → (f ≡ TooLarge) × (nat_lt max_text
-        (length (text (view_of (scalars_of (named members.now.entries)) content.now))) ≡ true)) }
+    ensures refused { IfErr result (λ f. f ≢ OutOfMemory → (f ≡ TooLarge)
+        × ((c : Content) → IsPayloadOf c payload.now → nat_lt max_text
+        (length (text (view_of (scalars_of (named members.now.entries)) c))) ≡ true)) }
 {
     let source = words_or_empty_at(members, "source");
     let id = words_or_empty_at(members, "id");
     let room = source.len().saturating_add(id.len()).saturating_add(3);
-    let draft = canonical(alloc, members, content, room)?;
+    let draft = canonical(alloc, members, payload, room)?;
     if draft.text.len() > MAX_TEXT {
         return Err(Fault::TooLarge);
     }
     Ok(sealed(draft, source, id)?)
+}
+
+/// The event with these members and this payload, of which it keeps so much, unless it is too large.
+fn event_of_payload(
+    alloc: Global,
+    members: &BTreeMap<String, Given>,
+    payload: &PayloadMember,
+    kept: Kept,
+) -> Result<Event, Fault>
+    requires members { member_fault (named members.now.entries) ≡ None }
+    requires carried { IsCarriedBy payload.now (content_in (string_bytes payload.now.json) kept) }
+    ensures event { IfOk result (λ e. (e ≡ view_of (scalars_of (named members.now.entries))
+        (content_in (string_bytes payload.now.json) kept)) × (length (text e) ≤ max_text)) }
+    ensures refused { IfErr result (λ f. f ≢ OutOfMemory → (f ≡ TooLarge) × (nat_lt max_text
+        (length (text (view_of (scalars_of (named members.now.entries))
+        (content_in (string_bytes payload.now.json) kept)))) ≡ true)) }
+{
+    let body = body_of(alloc, members, payload)?;
+    let day = time_day(words_at(members, "time"));
+    Ok(Event { body, kept, day })
 }
 
 impl Event {
@@ -159,10 +179,9 @@ impl Event {
             Some(fault) => return Err(fault),
         }
         let content = content_of(parts.offered);
-        let body = body_of(parts.alloc, &parts.members, &content)?;
-        let day = time_day(words_at(&parts.members, "time"));
+        let payload = payload_of(parts.alloc, &content)?;
         let kept = Kept::of(content);
-        Ok(Event { body, kept, day })
+        event_of_payload(parts.alloc, &parts.members, &payload, kept)
     }
 
     /// The canonical text: compact JSON, the members in byte order of their names, strings with the
@@ -244,20 +263,29 @@ impl Event {
         }
     }
 
-    /// The event's parts, of which [`Event::build`] makes an equal event: to make one that differs
-    /// in some. Time and memory in proportion to its text.
-    pub fn parts(&self, alloc: Global) -> Result<Parts, AllocError>
-        ensures parts { IfOk result (λ p. p ≡ parts_of self.now) }
+    /// The event with this value as the attribute of the name, in place of the one that it had, if
+    /// any: what [`Event::build`] makes of its parts then, but its data is copied as it stands. Time
+    /// and memory in proportion to its text.
+    ///
+    /// The first fault of these parts, in the order of the faults; or want of memory.
+    pub fn with_attribute(&self, alloc: Global, name: &str, value: Given) -> Result<Event, Fault>
+        ensures built { IfOk result (λ e. (fault (with_given name.now value (parts_of self.now)) ≡ None)
+            × (e ≡ event_of (with_given name.now value (parts_of self.now)))) }
+        ensures refused { IfErr result (λ f. f ≢ OutOfMemory
+            → fault (with_given name.now value (parts_of self.now)) ≡ Some f) }
         ensures event { IsEvent self.now }
     {
-        let mut parts = attribute_parts(
-            alloc,
-            self.body.text(),
-            self.body.aside(),
-            self.body.places.as_slice(),
-        )?;
-        parts.offer(offer_from(alloc, self.body.payload(), &self.kept)?);
-        Ok(parts)
+        let text = self.body.text();
+        let aside = self.body.aside();
+        let mut parts = attribute_parts(alloc, text, aside, self.body.places.as_slice())?;
+        parts.set(name, value)?;
+        match first_member_fault(&parts.members) {
+            None => {}
+            Some(fault) => return Err(fault),
+        }
+        let payload = payload_again(alloc, self.body.payload(), &self.kept)?;
+        let kept = self.kept.copy()?;
+        event_of_payload(alloc, &parts.members, &payload, kept)
     }
 
     /// An event value that is equal. Time and memory in proportion to its text.

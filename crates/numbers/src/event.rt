@@ -93,10 +93,8 @@ pub fn numbered(alloc: Global, event: &Event, number: Sequence) -> Result<Sequen
     ensures numbered { IfOk result (HasNumber number event.now) }
     ensures event { IfOk result IsEvent }
 {
-    let mut parts = event.parts(alloc)?;
     let digits = number.digits(alloc)?;
-    parts.set("sequence", Given::Words(digits))?;
-    let Ok(event) = Event::build(parts) else {
+    let Ok(event) = event.with_attribute(alloc, "sequence", Given::Words(digits)) else {
         return Err(AllocError);
     };
     match Sequenced::of(event) {

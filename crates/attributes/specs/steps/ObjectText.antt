@@ -6,6 +6,7 @@ use Rattle.json.specs.Print.{quoted}
 use Rattle.base64.specs.Engines.{standard}
 use Rattle.base64.specs.GeneralPurpose.{encode_of}
 use Rattle.attributes.specs.declared.body.Draft.{Draft}
+use Rattle.attributes.specs.declared.canonical.PayloadMember.{PayloadMember}
 use Rattle.attributes.specs.declared.content.Content.{Content}
 use Rattle.attributes.specs.declared.content.Content.TheVariants as content
 
@@ -49,9 +50,13 @@ pending false k d ms = ms
 
 -- whether an event's content is a member, its name, and the text of its value
 abbrev pub IsPayload : Content → Bool → List ℕ → List ℕ → Type 0
-IsPayload content.Nothing there name json = there ≡ false
+IsPayload content.Nothing there name json = (there ≡ false) × (name ≡ codes "data") × (json ≡ [])
 IsPayload (content.Tree d) there name json =
     (there ≡ true) × (name ≡ codes "data") × (json ≡ compact_text d)
 IsPayload (content.Bytes b) there name json =
     (there ≡ true) × (name ≡ codes "data_base64")
     × (json ≡ compact_text (string (encode_of standard b)))
+
+-- the payload member is that of an event with this content
+abbrev pub IsPayloadOf : Content → PayloadMember → Type 0
+IsPayloadOf c p = IsPayload c p.is_there p.name.now (string_bytes p.json)

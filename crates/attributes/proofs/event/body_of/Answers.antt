@@ -1,11 +1,10 @@
 use Rattle.std.proofs.Common.{◌∙◌, ℕ, List, ◌≡◌, true, length, ap, sym, subst, arith, IsUtf8}
 use Rattle.std.proofs.lemmas.Str.{IsUtf8-string_bytes}
-use Rattle.std.specs.Prelude.{codes}
+use Rattle.std.specs.Prelude.{codes, string_bytes}
 use Rattle.attributes.specs.Character.{is_filled}
 use Rattle.attributes.specs.Event.{words_or_empty}
 use Rattle.attributes.specs.Members.{named, value_at}
 use Rattle.attributes.specs.declared.scalar.Scalar.{Scalar}
-use Rattle.attributes.specs.steps.Kept.{TellsTree}
 use Rattle.attributes.proofs.BuildLemmas.{ordered_scalars}
 use Rattle.attributes.proofs.FaultLemmas.{given_words-or_empty, kind_passes, names_pass, values_pass}
 use Rattle.attributes.proofs.event.body_of.Goals as goal
@@ -17,7 +16,7 @@ pub canonical-requires-clause-named : goal.canonical-requires-clause-named
 canonical-requires-clause-named c = names_pass (named c.args.members.now.entries) c.requires.members
 
 pub returns-clause-text : goal.returns-clause-text
-returns-clause-text c = c.in_ok-sealed.ensures.text ∙ c.in_ok-draft.ensures.text
+returns-clause-text c = λ content is. c.in_ok-sealed.ensures.text ∙ c.in_ok-draft.ensures.text content is
 
 pub returns-clause-short : goal.returns-clause-short
 returns-clause-short c = omega (arith, c.if-len-gt-MAX_TEXT.false, c.len.ensures, ap (λ (t : List ℕ). length t) c.in_ok-sealed.ensures.text)
@@ -47,9 +46,7 @@ sealed-requires-clause-kind c =
     (kind_passes (named c.args.members.now.entries) c.requires.members)
 
 pub sealed-requires-clause-payload : goal.sealed-requires-clause-payload
-sealed-requires-clause-payload c = let held = c.in_ok-draft.ensures.payload in (held.0, held.1.0)
+sealed-requires-clause-payload c = (string_bytes c.args.payload.now.json, c.in_ok-draft.ensures.payload)
 
-pub returns-clause-tells : goal.returns-clause-tells
-returns-clause-tells c =
-    let held = c.in_ok-draft.ensures.payload in
-    subst (λ (l : List ℕ). TellsTree l c.args.content.now) (sym (c.in_ok-sealed.ensures.payload held.0 held.1.0)) held.1.1
+pub returns-clause-payload : goal.returns-clause-payload
+returns-clause-payload c = c.in_ok-sealed.ensures.payload (string_bytes c.args.payload.now.json) c.in_ok-draft.ensures.payload
