@@ -1,6 +1,6 @@
 -- The lines that tell what is wrong with a file: JSON without white space (RFC 8259), each with LF
 -- at its end. Which members there are is this project's own.
-use Rattle.std.specs.Prelude.{◌≡◌, ◌⊎◌, ℕ, nat_le, List, [], ◌∷◌, ◌++◌, length, flat_map, codes, Bool, true, false, not, if◌then◌else◌, Option, None, Some, option_and_then}
+use Rattle.std.specs.Prelude.{◌≡◌, ◌⊎◌, ℕ, nat_le, List, [], ◌∷◌, ◌++◌, length, flat_map, codes, Bool, true, false, not, ◌&&◌, if◌then◌else◌, Option, None, Some, option_and_then}
 use Rattle.std.specs.Fmt.{decimal}
 use Rattle.serde_json.specs.Data.{Data, null, boolean, number, string, array, object}
 use Rattle.serde_json.specs.Find.{get, as_str, is_float}
@@ -126,6 +126,16 @@ TellsNoEvents name b text = (told : List FaultyMember) × TellsFaulty b told
 -- what is said in lines of the file of that name and these bytes, whose events need no numbers
 abbrev pub IsReadingText : List ℕ → List ℕ → List ℕ → Type 0
 IsReadingText name b text = TellsNoEvents name b text ⊎ TellsWhole name b text
+
+-- a line for each member of a file at fault; where numbers don't count, for each that is no event
+abbrev pub told_lines : Bool → List ℕ → List FaultyMember → List ℕ
+told_lines numbers file told =
+    flat_map (λ m. if not numbers && is_of_number m.fault then [] else member_line file m) told
+
+-- what is said in lines of a file, where numbers count, or where they don't
+abbrev pub IsToldText : Bool → List ℕ → List ℕ → List ℕ → Type 0
+IsToldText numbers name b text = ((told : List FaultyMember) × TellsFaulty b told
+    × (text ≡ told_lines numbers (string_text name) told)) ⊎ TellsWhole name b text
 
 -- the line of a file's event, where file and id are JSON strings, with the words for its fault and
 -- for what to do

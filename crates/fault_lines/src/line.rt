@@ -6,7 +6,7 @@ ghost use Rattle.serde_json.specs.View.{view};
 ghost use Rattle.serde_json.specs.Written.{has_float};
 ghost use Rattle.event_json.specs.Faulty.{member_of};
 ghost use Rattle.fault_lines.specs.Member.{member_at_fault};
-ghost use Rattle.fault_lines.specs.Lines.{IsFaultText, IsReadingText, attribute_and_value, event_line, is_of_number, reading_lines, whole_file_line, id_member, id_of_member, if_short, is_plain_value, line_with, member_line, member_lines, place_at_fault, pointer_member, string_text, value_member, where_members};
+ghost use Rattle.fault_lines.specs.Lines.{IsFaultText, IsReadingText, IsToldText, attribute_and_value, event_line, is_of_number, told_lines, whole_file_line, id_member, id_of_member, if_short, is_plain_value, line_with, member_line, place_at_fault, pointer_member, string_text, value_member, where_members};
 
 use crate::member::member_at_fault;
 use crate::place::place;
@@ -27,13 +27,7 @@ const SHOWN: usize = 200;
 pub fn fault_lines(alloc: Global, name: &Text, bytes: &[u8]) -> Result<Text, AllocError>
     ensures { IfOk result (IsFaultText name.now bytes.now) }
 {
-    let file = string_text(alloc, name.as_str())?;
-    let text = match read_faulty(alloc, bytes) {
-        Ok(members) => member_lines(alloc, file.as_str(), members.as_slice())?,
-        Err(ReadFault::OutOfMemory) => return Err(AllocError),
-        Err(fault) => file_line(alloc, file.as_str(), fault)?,
-    };
-    Ok(Text::from_string(text))
+    told_text(alloc, name, bytes, true)
 }
 
 /// As [`fault_lines`], of events that need no numbers: nothing is told of a member whose number
@@ -41,9 +35,16 @@ pub fn fault_lines(alloc: Global, name: &Text, bytes: &[u8]) -> Result<Text, All
 pub fn reading_fault_lines(alloc: Global, name: &Text, bytes: &[u8]) -> Result<Text, AllocError>
     ensures { IfOk result (IsReadingText name.now bytes.now) }
 {
+    told_text(alloc, name, bytes, false)
+}
+
+/// The lines that tell what is wrong with a file, where numbers count or don't.
+fn told_text(alloc: Global, name: &Text, bytes: &[u8], numbers: bool) -> Result<Text, AllocError>
+    ensures { IfOk result (IsToldText numbers name.now bytes.now) }
+{
     let file = string_text(alloc, name.as_str())?;
     let text = match read_faulty(alloc, bytes) {
-        Ok(members) => reading_lines(alloc, file.as_str(), members.as_slice())?,
+        Ok(members) => member_lines(alloc, file.as_str(), members.as_slice(), numbers)?,
         Err(ReadFault::OutOfMemory) => return Err(AllocError),
         Err(fault) => file_line(alloc, file.as_str(), fault)?,
     };
@@ -98,19 +99,6 @@ fn line_with(alloc: Global, file: &str, words: &str, hint: &str) -> Result<Strin
     Ok(line)
 }
 
-/// The fault lines of a file's members at fault.
-fn member_lines(alloc: Global, file: &str, members: &[Faulty]) -> Result<String, AllocError>
-    ensures { IfOk result (λ text.
-        string_bytes text ≡ member_lines file.now (map member_of members.now)) }
-{
-    let mut out = String::new(alloc);
-    for member in members {
-        let line = member_line(alloc, file, member)?;
-        out.push_str(line.as_str())?;
-    }
-    Ok(out)
-}
-
 /// Whether an event's fault is of its number alone.
 fn is_of_number(fault: Fault) -> bool
     ensures { result ≡ is_of_number fault }
@@ -118,16 +106,22 @@ fn is_of_number(fault: Fault) -> bool
     matches!(fault, Fault::NoSequence | Fault::BadSequence)
 }
 
-/// The fault lines of a file's members that are no events.
-fn reading_lines(alloc: Global, file: &str, members: &[Faulty]) -> Result<String, AllocError>
+/// The fault lines of a file's members at fault; where numbers don't count, of those that are no
+/// events.
+fn member_lines(
+    alloc: Global,
+    file: &str,
+    members: &[Faulty],
+    numbers: bool,
+) -> Result<String, AllocError>
     ensures { IfOk result (λ text.
-        string_bytes text ≡ reading_lines file.now (map member_of members.now)) }
+        string_bytes text ≡ told_lines numbers file.now (map member_of members.now)) }
 {
     let mut out = String::new(alloc);
     for member in members {
-        if !is_of_number(member.fault) {
-            let more = member_line(alloc, file, member)?;
-            out.push_str(more.as_str())?;
+        if numbers || !is_of_number(member.fault) {
+            let line = member_line(alloc, file, member)?;
+            out.push_str(line.as_str())?;
         }
     }
     Ok(out)

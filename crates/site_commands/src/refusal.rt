@@ -81,7 +81,8 @@ pub fn number_fault_lines(alloc: Global, name: &Text, content: &Octets) -> Resul
     }
 }
 
-/// `check` says nothing of what `number` would refuse exactly where `number` takes all of it.
+/// `check` says nothing of what `number` would refuse exactly where `number` takes all of it, while
+/// its sources have numbers left.
 pub fn what_can_be_numbered_is_quiet()
     ensures { (name b text : List ℕ) → TellsForNumber name b text
         → (text ≡ []) ↔ CanBeNumbered b }

@@ -1,7 +1,0 @@
-use Rattle.std.proofs.Common.{◌≡◌, map, take, string_bytes}
-use Rattle.event_json.specs.Faulty.{member_of}
-use Rattle.fault_lines.specs.Lines.{reading_lines}
-use Rattle.fault_lines.proofs.line.reading_lines.Given as goal
-
-abbrev pub invariant-loop-member : goal.invariant-loop-member
-invariant-loop-member l = string_bytes l.out ≡ reading_lines l.file (map member_of (take l.member-index l.members))
