@@ -3,3 +3,4 @@ mod StandLemmas
 mod ForeignLemmas
 pub mod EachLemmas
 mod LookLemmas
+mod PageLemmas

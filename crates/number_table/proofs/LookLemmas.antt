@@ -60,7 +60,7 @@ stands_still base events rows old new c looks was = record {
 
 -- ---- lists
 
-all_filter : {X : Type 0} (P : X → Type 0) (p : X → Bool) (xs : List X) → AllByRecursion P xs → AllByRecursion P (filter p xs)
+pub all_filter : {X : Type 0} (P : X → Type 0) (p : X → Bool) (xs : List X) → AllByRecursion P xs → AllByRecursion P (filter p xs)
 all_filter P p [] a = tt
 all_filter {X} P p (x ∷ xs) a = by (p x) (all_filter P p xs a.1)
   where
@@ -72,7 +72,7 @@ all_both : {X : Type 0} (P : X → Type 0) (xs ys : List X) → AllByRecursion P
 all_both P [] ys a b = b
 all_both P (x ∷ xs) ys a b = (a.0, all_both P xs ys a.1 b)
 
-all_left : {X : Type 0} (P : X → Type 0) (xs ys : List X) → AllByRecursion P (xs ++ ys) → AllByRecursion P xs
+pub all_left : {X : Type 0} (P : X → Type 0) (xs ys : List X) → AllByRecursion P (xs ++ ys) → AllByRecursion P xs
 all_left P [] ys a = tt
 all_left P (x ∷ xs) ys a = (a.0, all_left P xs ys a.1)
 
@@ -88,7 +88,7 @@ joined_at P (M ∷ lists) (suc i) L a at = joined_at P lists i L (all_right P M 
 
 -- ---- rows of a source with an id
 
-same_name : (s t : List ℕ) (n : ℕ) (e x : EventValue) → HasNumber n e x → has_key s t e ≡ has_key s t x
+pub same_name : (s t : List ℕ) (n : ℕ) (e x : EventValue) → HasNumber n e x → has_key s t e ≡ has_key s t x
 same_name s t n e x one =
     sym (ap (has_key s t) one.is ∙ ap₂ (λ (a b : List ℕ). bytes_eq a s && bytes_eq b t) (numbered_events.source e one.digits) (numbered_events.id e one.digits))
 

@@ -14,9 +14,9 @@ use Rattle.inbox_table.specs.declared.fault.TableFault.{TableFault}
 use Rattle.numbers.specs.Counts.{Counts, IsCountOf}
 use Rattle.numbers.specs.Numbered.{AreBare, HaveNumbers}
 use Rattle.numbers.specs.Numberer.{IsEachOnce, number, taken}
-use Rattle.number_table.specs.Fault.{of_table}
+use Rattle.number_table.specs.Fault.{IsOfReading, of_table}
 use Rattle.number_table.specs.declared.fault.NumbererFault.{NumbererFault}
-use Rattle.number_table.specs.declared.fault.NumbererFault.TheVariants.{Foreign, OutOfMemory}
+use Rattle.number_table.specs.declared.fault.NumbererFault.TheVariants.{Foreign}
 
 -- the number that a numberer begins each source behind
 abbrev pub from : ℕ → List ℕ → ℕ
@@ -72,9 +72,11 @@ NoneLeaves base rows = (events : List EventValue) → AreBare events → IsEachO
     → HaveNumbers (number (from base) events) events rows → ⊥
 
 -- a numberer's opening is refused for this fault: as that of the table is; or this was opened, and
--- isn't a numberer's, or memory ran out while it was counted. Then it has the rows that it had
+-- isn't a numberer's; or it was opened, and its rows couldn't be read, or memory ran out while they
+-- were counted, which may have shut the connection. Then it has the rows that it had
 abbrev pub RejectsNumbers : State → State → NumbererFault → Type 0
 RejectsNumbers old new fault =
     ((given : TableFault) × (fault ≡ of_table given) × RejectsOpening old new given)
-    ⊎ (((fault ≡ Foreign) ⊎ (fault ≡ OutOfMemory))
-    × (HasCleanDisk new → (rows : List EventValue) × Opens (λ _ _. ⊤) old new rows))
+    ⊎ ((fault ≡ Foreign) × (HasCleanDisk new → (rows : List EventValue) × Opens (λ _ _. ⊤) old new rows))
+    ⊎ (IsOfReading fault × (HasCleanDisk new → IsTrue new.is_open
+    → (rows : List EventValue) × Opens (λ _ _. ⊤) old new rows))

@@ -1,4 +1,5 @@
 -- The refusals of a numberer, by those of what it stands on.
+use Rattle.std.specs.Prelude.{◌≡◌, ◌⊎◌}
 use Rattle.inbox_table.specs.declared.fault.TableFault.{TableFault}
 use Rattle.inbox_table.specs.declared.fault.TableFault.TheVariants as table
 use Rattle.numbers.specs.declared.fault.NumberFault.{NumberFault}
@@ -18,3 +19,7 @@ abbrev pub of_table : TableFault → NumbererFault
 of_table table.OutOfMemory = OutOfMemory
 of_table table.Store = Store
 of_table table.Foreign = Foreign
+
+-- a numberer's rows couldn't be read: want of memory, or another refusal of the store
+abbrev pub IsOfReading : NumbererFault → Type 0
+IsOfReading f = (f ≡ OutOfMemory) ⊎ (f ≡ Store)

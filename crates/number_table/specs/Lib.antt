@@ -2,3 +2,4 @@ pub mod Fault
 pub mod Calls
 pub mod Each
 pub mod Lookups
+pub mod Counting

@@ -13,11 +13,12 @@ ghost use Rattle.numbers.specs.declared.fault.NumberFault.{NumberFault};
 ghost use Rattle.number_table.specs.Fault.{of_numbers, of_table};
 ghost use Rattle.number_table.specs.declared.fault.NumbererFault.TheVariants.{Foreign};
 
+use crate::count::count_rows;
 use crate::fault::NumbererFault;
 use crate::lookup::{answer_all, answer_each, look_at};
 use attributes::{Batch, Events, List};
-use inbox_table::{Loaded, NotMade, Table, Unwatched};
-use numbers::{Counted, count_all, refusal};
+use inbox_table::{NotMade, Table, Unwatched};
+use numbers::{Counted, refusal};
 use sqlite::{Alter, Connection};
 use std::alloc::Global;
 
@@ -46,13 +47,15 @@ impl<S: Alter + Drop> Numberer<S> {
     ghost use Rattle.number_table.specs.Each.{AreNumberedEach, MayNumberEach, NumberEachEffect};
 
     /// Opens the numberer of a database, with the base that it was made with, or makes one where
-    /// there is no table. Each row is read. Time and memory in proportion to the rows; what stays is
-    /// the last number of each source, and a filter of the texts that takes 4 bytes for each row
-    /// that there is now, 1 MiB at least and 16 MiB at most.
+    /// there is no table. Each row is read twice, and those of the row's source and id are asked for
+    /// where its text may have stood before: few, where none has. Time in proportion to the rows;
+    /// memory for 1,000 of them, for the last number of each source, and for a filter of the texts
+    /// that takes 4 bytes for each row that there is now, 1 MiB at least and 16 MiB at most. The
+    /// last two stay.
     ///
-    /// Refused as [`Table::open_and_load`] is; `Foreign` too where a row isn't that of an event with
-    /// its source's next number, or a text has two: never of a table that a numberer with this base
-    /// leaves. The connection comes back.
+    /// Refused as [`Table::open`] and [`Table::page`] are, after which the connection may be shut;
+    /// `Foreign` too where a row isn't that of an event with its source's next number, or a text has
+    /// two: never of a table that a numberer with this base leaves. The connection comes back.
     pub fn open(alloc: Global, conn: Connection<S>, base: u64) -> Result<Numberer<S>, NotOpened<S>>
         ensures opens { IfOk result (λ n. HasCleanDisk (state S.Store n.table.conn)
             → (events rows : List EventValue)
@@ -67,12 +70,11 @@ impl<S: Alter + Drop> Numberer<S> {
         ensures crash { IfOk result (λ n. LeavesOpening (state S.Store conn) (state S.Store n.table.conn)) }
         ensures crash_refused { IfErr result (λ n. LeavesOpening (state S.Store conn) (state S.Store n.conn)) }
     {
-        let loaded = match Table::open_and_load(alloc, conn, &Unwatched) {
-            Ok(loaded) => loaded,
+        let mut table = match Table::open(alloc, conn, &Unwatched) {
+            Ok(table) => table,
             Err(refused) => return Err(not_made(refused)),
         };
-        let Loaded { table, events } = loaded;
-        match count_all(alloc, base, events) {
+        match count_rows(alloc, &mut table, base) {
             Ok(Some(counted)) => Ok(Numberer {
                 table,
                 counted: Some(counted),
@@ -83,9 +85,9 @@ impl<S: Alter + Drop> Numberer<S> {
                 conn: table.into_connection(),
                 fault: NumbererFault::Foreign,
             }),
-            Err(_) => Err(NotOpened {
+            Err(fault) => Err(NotOpened {
                 conn: table.into_connection(),
-                fault: NumbererFault::OutOfMemory,
+                fault,
             }),
         }
     }

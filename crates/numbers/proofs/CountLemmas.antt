@@ -1,5 +1,5 @@
 -- Counts of a list that grows.
-use Rattle.std.proofs.Common.{◌≡◌, ◌⊎◌, inl, inr, ℕ, zero, suc, ◌+◌, ◌<◌, List, [], ◌∷◌, ◌++◌, length, take, slice_get, Bool, true, false, cond, ◌||◌, bytes_eq, if◌then◌else◌, Some, None, unwrap_or, refl, sym, ap, ap₂, subst, ◌∙◌, arith, true≢false, is_eq}
+use Rattle.std.proofs.Common.{◌≡◌, ◌⊎◌, inl, inr, ℕ, zero, suc, ◌+◌, ◌<◌, ◌≤◌, List, [], ◌∷◌, ◌++◌, length, take, slice_get, Bool, true, false, cond, ◌||◌, bytes_eq, if◌then◌else◌, Some, None, unwrap_or, refl, sym, ap, ap₂, subst, ◌∙◌, arith, true≢false, is_eq}
 use Rattle.std.specs.declared.cmp.Ordering.{Ordering}
 use Rattle.std.specs.declared.cmp.Ordering.TheVariants.{Less, Equal, Greater}
 use Rattle.std.specs.Ordering.{ordering_then}
@@ -16,9 +16,9 @@ use Rattle.inbox.specs.Ordered.{has}
 use Rattle.inbox.proofs.OrderLemmas.{key_cmp_total}
 use Rattle.inbox.proofs.ReadLemmas.{take_next}
 use Rattle.inbox.proofs.SetLemmas.{append_new-append}
-use Rattle.numbers.specs.Counts.{Counts, IsCountOf, IsCountOfRows, IsCounted, IsWholeCountOf, KeepsKnown, Knows, KnowsOnly, TextNumbers, next}
+use Rattle.numbers.specs.Counts.{Counts, IsCountOf, IsCountOfRows, IsCounted, KeepsKnown, Knows, KnowsOnly, TextNumbers, next}
 use Rattle.numbers.specs.Filter.{MayHave}
-use Rattle.numbers.specs.Numbered.{AreBare, HasNumber, HaveNumbers, IsBare}
+use Rattle.numbers.specs.Numbered.{AreBare, HasNoOther, HasNumber, HaveNumbers, IsBare}
 use Rattle.numbers.specs.Numberer.{IsEachOnce, is_of_source, number, of_source, taken, up_to}
 use Rattle.numbers.proofs.BatchLemmas.{all_more}
 use Rattle.numbers.proofs.ListLemmas.{all_map, all_there, has-append, itself, stays_once}
@@ -263,11 +263,6 @@ knows_at P (y ∷ xs) (suc i) x a h = knows_at P xs i x a.1 h
 
 -- ---- rows that are counted
 
--- so far these rows are counted, and the texts of their events known
-pub record AreCounted (base : List ℕ → ℕ) (rows : List EventValue) (c : Counts) (K : TextNumbers) : Type 0 where
-  pub rows_are : IsCountOfRows base rows c
-  pub knows : (e : EventValue) → IsEvent e → Knows base rows_are.events K e
-
 none_counted : (b : ℕ) (c : Counts) → c.last ≡ [] → c.base ≡ b → c.recent ≡ [] → IsCountOf (λ _. b) [] c
 none_counted b c none is forgotten = record {
   last = λ s. ap₂ (λ (l : List (List ℕ × ℕ)) (k : ℕ). unwrap_or (value_at s l) k) none is ∙ (let e : b ≡ b + 0 = omega arith in e);
@@ -275,52 +270,79 @@ none_counted b c none is forgotten = record {
   recent = subst (KnowsOnly (λ _. b) []) (sym forgotten) (only_none (λ _. b) []);
 }
 
-pub nothing_counted : (b : ℕ) (c : Counts) (K : TextNumbers) → c.last ≡ [] → c.base ≡ b → c.recent ≡ [] → K ≡ [] → AreCounted (λ _. b) [] c K
-nothing_counted b c K none is forgotten empty = record {
-  rows_are = record { events = []; bare = tt; once = refl; numbers = tt; whole = tt; counts = none_counted b c none is forgotten };
-  knows = λ e event. ap (λ (l : TextNumbers). value_at (text e) l) empty;
-}
+pub nothing_counted : (b : ℕ) (c : Counts) → c.last ≡ [] → c.base ≡ b → c.recent ≡ [] → IsCountOfRows (λ _. b) [] c
+nothing_counted b c none is forgotten = record { events = []; bare = tt; once = refl; numbers = tt; whole = tt; counts = none_counted b c none is forgotten }
 
 bare_more : (A : List EventValue) (e : EventValue) → AreBare A → IsBare e → AreBare (A ++ e ∷ [])
 bare_more [] e a is = (is, tt)
 bare_more (x ∷ A) e a is = (a.0, bare_more A e a.1 is)
 
-row_step : (base : List ℕ → ℕ) (rows : List EventValue) (n : ℕ) (e x : EventValue) (c d : Counts) (K M : TextNumbers) → AreCounted base rows c K → IsEvent x → IsBare e → HasNumber n e x
-    → ((b : List ℕ → ℕ) (A : List EventValue) → IsWholeCountOf b A c K → (taken A (e ∷ []) ≡ A ++ e ∷ []) × (n ≡ number b (taken A (e ∷ [])) e) × IsWholeCountOf b (taken A (e ∷ [])) d M)
-    → AreCounted base (rows ++ x ∷ []) d M
-row_step base rows n e x c d K M so_far event is one step =
-    let was = so_far.rows_are in
+nothing_known : (base : List ℕ → ℕ) (A : List EventValue) (e : EventValue) → has key_cmp A e ≡ false → Knows base A [] e
+nothing_known base A e lacks = sym (ap (λ (b : Bool). if b then Some (number base A e) else None) lacks)
+
+-- a new event's number is the next of its source
+pub next_new : (base : List ℕ → ℕ) (A : List EventValue) (c : Counts) (e : EventValue) → has key_cmp A e ≡ false → IsCountOf base A c → next c (source_of e) ≡ number base (taken A (e ∷ [])) e
+next_new base A c e lacks counts = next_is base A c [] e refl (nothing_known base A e lacks) counts
+
+-- the row of a new event, with its source's next number, stands behind those that are counted
+pub row_step : (base : List ℕ → ℕ) (rows : List EventValue) (e x : EventValue) (c d : Counts) (was : IsCountOfRows base rows c) → IsEvent x → IsBare e → HasNumber (next c (source_of e)) e x → has key_cmp was.events e ≡ false → IsCounted c d (text e) (source_of e)
+    → IsCountOfRows base (rows ++ x ∷ []) d
+row_step base rows e x c d was event is one lacks more =
     let A = was.events in
     let T = taken A (e ∷ []) in
-    let it = step base A (record { counts = was.counts; knows = so_far.knows }) in
-    let grown : T ≡ A ++ e ∷ [] = it.0 in
+    let grown : T ≡ A ++ e ∷ [] = grown_by A e lacks in
     let stays : AllByRecursion (λ a. number base A a ≡ number base T a) A = all_map (λ a. has key_cmp A a ≡ true) (λ a. number base A a ≡ number base T a) (λ a h. sym (number_stays base A (e ∷ []) a h)) A each_in in
-    let had = have_more (number base T) A rows e x (have_same (number base A) (number base T) A rows stays was.numbers) (subst (λ m. HasNumber m e x) it.1 one) in
+    let had = have_more (number base T) A rows e x (have_same (number base A) (number base T) A rows stays was.numbers) (subst (λ m. HasNumber m e x) (next_new base A c e lacks was.counts) one) in
     record {
-      rows_are = record {
-        events = T;
-        bare = subst AreBare (sym grown) (bare_more A e was.bare is);
-        once = stays_once key_cmp_total A (e ∷ []) was.once;
-        numbers = subst (λ Q. HaveNumbers (number base T) Q (rows ++ x ∷ [])) (sym grown) had;
-        whole = all_more rows x was.whole event;
-        counts = it.2.counts;
-      };
-      knows = it.2.knows;
+      events = T;
+      bare = subst AreBare (sym grown) (bare_more A e was.bare is);
+      once = stays_once key_cmp_total A (e ∷ []) was.once;
+      numbers = subst (λ Q. HaveNumbers (number base T) Q (rows ++ x ∷ [])) (sym grown) had;
+      whole = all_more rows x was.whole event;
+      counts = new_step base A c [] e is.event refl (nothing_known base A e lacks) was.counts d more;
     }
   where
-    each_in : AllByRecursion (λ a. has key_cmp so_far.rows_are.events a ≡ true) so_far.rows_are.events
-    each_in = subst (λ B. AllByRecursion (λ a. has key_cmp B a ≡ true) so_far.rows_are.events) so_far.rows_are.once (all_there key_cmp_total [] so_far.rows_are.events)
+    each_in : AllByRecursion (λ a. has key_cmp was.events a ≡ true) was.events
+    each_in = subst (λ B. AllByRecursion (λ a. has key_cmp B a ≡ true) was.events) was.once (all_there key_cmp_total [] was.events)
 
--- the row that is taken from the front stands behind those before
-pub next_row : (base : List ℕ → ℕ) (done rest rows all : List EventValue) (n : ℕ) (e x : EventValue) (c d : Counts) (K M : TextNumbers) → rows ≡ x ∷ rest → done ++ rows ≡ all → AreCounted base done c K → IsEvent x → IsBare e → HasNumber n e x
-    → ((b : List ℕ → ℕ) (A : List EventValue) → IsWholeCountOf b A c K → (taken A (e ∷ []) ≡ A ++ e ∷ []) × (n ≡ number b (taken A (e ∷ [])) e) × IsWholeCountOf b (taken A (e ∷ [])) d M)
-    → (so_far : List EventValue) × (so_far ++ rest ≡ all) × AreCounted base so_far d M
-next_row base done rest rows all n e x c d K M is h was event bare one step =
-    (done ++ x ∷ [], shift done ∙ ap (λ l. done ++ l) (sym is) ∙ h, row_step base done n e x c d K M was event bare one step)
+-- no number of a source is above how many events it has
+at_most : (s : List ℕ) (A : List EventValue) (e : EventValue) → length (of_source s (up_to e A)) ≤ length (of_source s A)
+at_most s [] e = omega arith
+at_most s (x ∷ xs) e = by (is_eq (key_cmp e x)) (is_of_source s x) (at_most s xs e)
   where
-    shift : (d : List EventValue) → (d ++ x ∷ []) ++ rest ≡ d ++ x ∷ rest
-    shift [] = refl
-    shift (y ∷ d) = ap (λ l. y ∷ l) (shift d)
+    by : (b c : Bool) → length (of_source s (up_to e xs)) ≤ length (of_source s xs)
+        → length (cond c (x ∷ of_source s (if b then [] else up_to e xs)) (of_source s (if b then [] else up_to e xs))) ≤ length (cond c (x ∷ of_source s xs) (of_source s xs))
+    by true true h = omega arith
+    by true false h = omega arith
+    by false true h = omega (arith, h)
+    by false false h = h
+
+-- where the list has the event, its row has its number
+its_number : (m : EventValue → ℕ) (k : ℕ) (A X : List EventValue) (e : EventValue) → IsEvent e → AreBare A → HaveNumbers m A X → has key_cmp A e ≡ true → AllByRecursion (HasNoOther k e) X → m e ≡ k
+its_number m k [] X e event bare have there all = absurd (true≢false (sym there))
+its_number m k (f ∷ A) [] e event bare have there all = absurd have
+its_number m k (f ∷ A) (x ∷ X) e event bare have there all = by (bytes_eq (text e) (text f)) refl (λ later. its_number m k A X e event bare.1 have.1 later all.1)
+  where
+    by : (b : Bool) → bytes_eq (text e) (text f) ≡ b → (has key_cmp A e ≡ true → m e ≡ k) → m e ≡ k
+    by true h rest =
+        let same : e ≡ f = same_text e f event bare.0.event (bytes_same (text e) (text f) h) in
+        all.0 (m e) (subst (λ g. HasNumber (m g) g x) (sym same) have.0)
+    by false h rest = rest (sym (ap (λ b. b || has key_cmp A e) (apart e f h)) ∙ there)
+
+-- an event whose rows have none but its source's next number is new, since each number of the list
+-- is below that
+pub surely_lacks : (base : List ℕ → ℕ) (rows : List EventValue) (e : EventValue) (c : Counts) (was : IsCountOfRows base rows c) → IsEvent e → AllByRecursion (HasNoOther (next c (source_of e)) e) rows → has key_cmp was.events e ≡ false
+surely_lacks base rows e c was event all = by (has key_cmp was.events e) refl
+  where
+    by : (b : Bool) → has key_cmp was.events e ≡ b → has key_cmp was.events e ≡ false
+    by true there =
+        let A = was.events in
+        let s = source_of e in
+        let its : base s + length (of_source s (up_to e A)) ≡ next c s = its_number (number base A) (next c s) A rows e event was.bare was.numbers there all in
+        let last : next c s ≡ suc (base s + length (of_source s A)) = ap suc (was.counts.last s) in
+        let below = at_most s A e in
+        absurd (omega (arith, its, last, below))
+    by false lacks = lacks
 
 -- further events leave the numbers that were given
 pub rows_stay : (base : List ℕ → ℕ) (A L D : List EventValue) → IsEachOnce A → HaveNumbers (number base A) A D → HaveNumbers (number base (taken A L)) A D

@@ -27,6 +27,13 @@ pub all_then : {X : Type 0} (P : X → Type 0) (xs : List X) (x : X) → AllByRe
 all_then P [] x a is = (is, tt)
 all_then P (y ∷ xs) x a is = (a.0, all_then P xs x a.1 is)
 
+-- what holds of each row up to one, and of that
+pub more_at : (P : EventValue → Type 0) (X : List EventValue) (i : ℕ) (x : EventValue) → slice_get X i ≡ Some x → AllByRecursion P (take i X) → P x → AllByRecursion P (take (i + 1) X)
+more_at P X i x at were is = subst (AllByRecursion P) (sym (take_next X i x at)) (all_then P (take i X) x were is)
+
+pub all_of : (P : EventValue → Type 0) (X : List EventValue) (i : ℕ) → length X ≤ i → AllByRecursion P (take i X) → AllByRecursion P X
+all_of P X i past were = subst (AllByRecursion P) (take_all i X past) were
+
 -- ---- the rows tell of an event
 
 -- the event of a row
@@ -71,10 +78,10 @@ pub none_among : (m : EventValue → ℕ) (E X : List EventValue) (e : EventValu
 none_among m E X e bare others are have = sym (ap (λ (b : Bool). if b then Some (m e) else None) (lacks_all m E X e bare others are have))
 
 pub others_more : (X : List EventValue) (i : ℕ) (e x : EventValue) → slice_get X i ≡ Some x → AreOthers e (take i X) → ((n : ℕ) → HasNumber n e x → ⊥) → AreOthers e (take (i + 1) X)
-others_more X i e x at were none = subst (AreOthers e) (sym (take_next X i x at)) (all_then (λ y. (n : ℕ) → HasNumber n e y → ⊥) (take i X) x were none)
+others_more X i e x at were none = more_at (λ y. (n : ℕ) → HasNumber n e y → ⊥) X i x at were none
 
 pub all_others : (X : List EventValue) (i : ℕ) (e : EventValue) → length X ≤ i → AreOthers e (take i X) → AreOthers e X
-all_others X i e past were = subst (AreOthers e) (take_all i X past) were
+all_others X i e past were = all_of (λ x. (n : ℕ) → HasNumber n e x → ⊥) X i past were
 
 -- ---- what is known
 

@@ -10,6 +10,6 @@ pub mod TextLemmas
 pub mod CountLemmas
 mod AsideLemmas
 mod BareLemmas
-mod UncountedLemmas
+pub mod UncountedLemmas
 mod FilterLemmas
 pub mod KnownLemmas

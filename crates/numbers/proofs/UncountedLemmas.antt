@@ -1,15 +1,16 @@
 -- Rows that no numberer leaves.
-use Rattle.std.proofs.Common.{◌≡◌, ◌≢◌, ◌⊎◌, inl, inr, ℕ, ◌+◌, List, [], ◌∷◌, ◌++◌, append_assoc, length, true, false, Some, refl, sym, ap, ap₂, subst, ◌∙◌, true≢false}
+use Rattle.std.proofs.Common.{◌≡◌, ◌≢◌, ℕ, ◌+◌, List, [], ◌∷◌, ◌++◌, append_assoc, length, true, false, Some, refl, sym, ap, ap₂, subst, ◌∙◌}
+use Rattle.std.specs.List.{AllByRecursion}
 use Rattle.attributes.specs.Event.{EventValue, source_of}
 use Rattle.attributes.specs.Sequence.{number_of}
 use Rattle.inbox.specs.KeyOrder.{key_cmp}
 use Rattle.inbox.specs.Ordered.{append_new, has}
 use Rattle.inbox.proofs.OrderLemmas.{key_cmp_total}
 use Rattle.inbox.proofs.SetLemmas.{append_new-append}
-use Rattle.numbers.specs.Counts.{Counts, IsWholeCountOf, TextNumbers}
-use Rattle.numbers.specs.Numbered.{AreBare, HasNumber, HaveNumbers, IsBare}
+use Rattle.numbers.specs.Counts.{Counts, IsCountOfRows, next}
+use Rattle.numbers.specs.Numbered.{AreBare, HasNoOther, HasNumber, HaveNumbers, IsBare}
 use Rattle.numbers.specs.Numberer.{IsEachOnce, number, of_source, taken, up_to}
-use Rattle.numbers.proofs.CountLemmas.{AreCounted, grown_by}
+use Rattle.numbers.proofs.CountLemmas.{grown_by, next_new}
 use Rattle.numbers.proofs.ListLemmas.{distinct_from, itself, there}
 use Rattle.numbers.proofs.NumberLemmas.{up_to_stays}
 use Rattle.numbers.proofs.NumberedLemmas.{numbered_events}
@@ -27,6 +28,10 @@ its_own e f x n m other g one h = (
   same_bare f e x m n other one g h,
   some_is m n (sym (numbered_events.number f g.digits m g.number) ∙ ap number_of (sym g.is ∙ h.is) ∙ numbered_events.number e h.digits n h.number),
 )
+
+-- the number of an event's row
+pub number_is : (e x : EventValue) (n k : ℕ) → HasNumber n e x → number_of x ≡ Some k → n ≡ k
+number_is e x n k one own = some_is n k (sym (ap number_of one.is ∙ numbered_events.number e one.digits n one.number) ∙ own)
 
 same_rows : (m k : EventValue → ℕ) (P A X : List EventValue) → AreBare P → AreBare A → HaveNumbers m P X → HaveNumbers k A X → P ≡ A
 same_rows m k [] [] X p a h g = refl
@@ -51,14 +56,12 @@ bare_split : (P R : List EventValue) (e : EventValue) → AreBare (P ++ e ∷ R)
 bare_split [] R e a = (tt, a.0)
 bare_split (x ∷ P) R e a = let r = bare_split P R e a.1 in ((a.0, r.0), r.1)
 
--- where the next row isn't that of an event with its number, no numberer leaves the rows
-pub no_numberer : (base : List ℕ → ℕ) (done rest rows all : List EventValue) (x : EventValue) (c : Counts) (K : TextNumbers) → rows ≡ x ∷ rest → done ++ rows ≡ all → AreCounted base done c K
-    → ((e : EventValue) (n : ℕ) → IsBare e → HasNumber n e x → (b : List ℕ → ℕ) (A : List EventValue) → IsWholeCountOf b A c K → (has key_cmp A e ≡ true) ⊎ (n ≢ number b (taken A (e ∷ [])) e))
-    → (events : List EventValue) → AreBare events → IsEachOnce events → HaveNumbers (number base events) events all → ⊥
-no_numberer base done rest rows all x c K is h so_far refused events bare once have =
-    let was = so_far.rows_are in
+-- where the next row isn't that of an event with its source's next number, no numberer leaves the rows
+pub no_next : (base : List ℕ → ℕ) (done rest : List EventValue) (x : EventValue) (c : Counts) → IsCountOfRows base done c → ((e : EventValue) (n : ℕ) → IsBare e → HasNumber n e x → n ≢ next c (source_of e))
+    → (events : List EventValue) → AreBare events → IsEachOnce events → HaveNumbers (number base events) events (done ++ x ∷ rest) → ⊥
+no_next base done rest x c was refused events bare once have =
     let m = number base events in
-    let s = rows_split m events done rest x (subst (HaveNumbers m events) (sym h ∙ ap (λ l. done ++ l) is) have) in
+    let s = rows_split m events done rest x have in
     let e = s.1 in
     let R = s.2 in
     let own = bare_split s.0 R e (subst AreBare s.3 bare) in
@@ -73,9 +76,27 @@ no_numberer base done rest rows all x c K is h so_far refused events bare once h
     let stands : has key_cmp T e ≡ true = there key_cmp_total A (e ∷ []) e (itself key_cmp_total e []) in
     let its : m e ≡ number base T e =
     ap (λ l. base (source_of e) + length (of_source (source_of e) l)) (ap (up_to e) more ∙ up_to_stays T R e stands) in
-    by e A lacks its (refused e (m e) own.1 s.5 base A (record { counts = was.counts; knows = so_far.knows }))
+    refused e (m e) own.1 s.5 (its ∙ sym (next_new base A c e lacks was.counts))
+
+-- all rows of a numberer that are an event have its number
+all_own : (m : EventValue → ℕ) (E X : List EventValue) (e : EventValue) → IsBare e → AreBare E → HaveNumbers m E X → AllByRecursion (HasNoOther (m e) e) X
+all_own m [] [] e bare are have = tt
+all_own m [] (x ∷ X) e bare are have = absurd have
+all_own m (f ∷ E) [] e bare are have = absurd have
+all_own m (f ∷ E) (x ∷ X) e bare are have = (own, all_own m E X e bare are.1 have.1)
   where
-    by : (e : EventValue) (A : List EventValue) → has key_cmp A e ≡ false → number base events e ≡ number base (taken A (e ∷ [])) e
-        → (has key_cmp A e ≡ true) ⊎ (number base events e ≢ number base (taken A (e ∷ [])) e) → ⊥
-    by e A lacks its (inl there) = absurd (true≢false (sym there ∙ lacks))
-    by e A lacks its (inr differs) = differs its
+    own : (k : ℕ) → HasNumber k e x → k ≡ m e
+    own k one = (let two = its_own f e x (m f) k bare one are.0 have.0 in two.1 ∙ ap m (sym two.0))
+
+middle : (P : EventValue → Type 0) (done rest : List EventValue) (x : EventValue) → AllByRecursion P (done ++ x ∷ rest) → P x
+middle P [] rest x all = all.0
+middle P (y ∷ done) rest x all = middle P done rest x all.1
+
+-- where two rows are an event with different numbers, no numberer leaves the rows
+pub no_other : (base : List ℕ → ℕ) (done rest : List EventValue) (e x : EventValue) (n : ℕ) → IsBare e → HasNumber n e x → (AllByRecursion (HasNoOther n e) (done ++ x ∷ rest) → ⊥)
+    → (events : List EventValue) → AreBare events → IsEachOnce events → HaveNumbers (number base events) events (done ++ x ∷ rest) → ⊥
+no_other base done rest e x n bare one other events are once have =
+    let m = number base events in
+    let all = all_own m events (done ++ x ∷ rest) e bare are have in
+    let its : n ≡ m e = middle (HasNoOther (m e) e) done rest x all n one in
+    other (subst (λ (k : ℕ). AllByRecursion (HasNoOther k e) (done ++ x ∷ rest)) (sym its) all)

@@ -82,12 +82,6 @@ pub record IsCountOf (base : List ℕ → ℕ) (A : List EventValue) (c : Counts
   pub seen : (e : EventValue) → has key_cmp A e ≡ true → MayHave c.seen (text e)
   pub recent : KnowsOnly base A c.recent
 
--- the counts are those of the list, and each of its texts is known
-pub record IsWholeCountOf (base : List ℕ → ℕ) (A : List EventValue) (c : Counts)
-    (known : TextNumbers) : Type 0 where
-  pub counts : IsCountOf base A c
-  pub knows : (e : EventValue) → IsEvent e → Knows base A known e
-
 -- the numberer's counts are those of a list of distinct events without numbers, whose events with
 -- their numbers are these
 pub record IsCountOfRows (base : List ℕ → ℕ) (rows : List EventValue) (c : Counts) : Type 0 where

@@ -43,6 +43,10 @@ pub record HasNumber (n : ℕ) (e x : EventValue) : Type 0 where
   pub number : sequence_of digits ≡ Some n
   pub is : x ≡ with_sequence digits e
 
+-- x isn't the event e given another number than n
+abbrev pub HasNoOther : ℕ → EventValue → EventValue → Type 0
+HasNoOther n e x = (m : ℕ) → HasNumber m e x → m ≡ n
+
 -- each event of the second list is that of the first given its number
 abbrev pub HaveNumbers : (EventValue → ℕ) → List EventValue → List EventValue → Type 0
 HaveNumbers n [] [] = ⊤

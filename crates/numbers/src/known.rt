@@ -1,6 +1,6 @@
 //! The numbers of the texts that calls have met.
 
-ghost use Rattle.std.specs.Prelude.{◌≡◌, ◌↔◌, [], ℕ, List, IfOk, IsTrue, None, OnOk, Some, if◌then◌else◌};
+ghost use Rattle.std.specs.Prelude.{◌≡◌, ◌↔◌, [], ℕ, List, IfOk, IsFalse, IsTrue, None, OnOk, Some, if◌then◌else◌};
 ghost use Rattle.std.specs.List.{AllByRecursion};
 ghost use Rattle.std.specs.Option.{option_copied};
 ghost use Rattle.attributes.specs.Event.{EventValue};
@@ -8,7 +8,7 @@ ghost use Rattle.attributes.specs.Members.{named, value_at, with_value};
 ghost use Rattle.inbox.specs.KeyOrder.{key_cmp};
 ghost use Rattle.inbox.specs.Ordered.{has};
 ghost use Rattle.numbers.specs.Counts.{HasText};
-ghost use Rattle.numbers.specs.Numbered.{AreBare, HasNumber, HaveNumbers, IsBare};
+ghost use Rattle.numbers.specs.Numbered.{AreBare, HasNoOther, HasNumber, HaveNumbers, IsBare};
 
 use crate::event::numbered_text;
 use attributes::{Batch, Event, Events, Sequence, Sequenced};
@@ -138,4 +138,40 @@ pub fn number_among(
         }
     }
     Ok(None)
+}
+
+/// Whether the row is the event with another number than this.
+fn is_other_row_of(
+    alloc: Global,
+    event: &Event,
+    number: Sequence,
+    row: &Sequenced,
+) -> Result<bool, AllocError>
+    requires { IsBare event.now }
+    ensures { IfOk result (λ is. IsFalse is ↔ HasNoOther number event.now row.now) }
+{
+    if !is_row_of(alloc, event, row)? {
+        return Ok(false);
+    }
+    Ok(row.number().number() != number.number())
+}
+
+/// Whether none of these rows of a numberer is the event with another number than this. Time and
+/// memory in proportion to the event's text, for each row up to the first that is.
+pub fn has_no_other(
+    alloc: Global,
+    event: &Event,
+    number: Sequence,
+    rows: &Batch,
+) -> Result<bool, AllocError>
+    requires { IsBare event.now }
+    ensures { IfOk result (λ is. IsTrue is
+        ↔ AllByRecursion (HasNoOther number event.now) rows.now) }
+{
+    for i in 0..rows.len() {
+        if is_other_row_of(alloc, event, number, rows.at(i))? {
+            return Ok(false);
+        }
+    }
+    Ok(true)
 }

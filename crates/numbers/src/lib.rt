@@ -15,9 +15,9 @@ mod turn;
 
 pub use aside::set_aside;
 pub use batch::{MAX_BARE_TEXT, refusal, refusal_at};
-pub use count::count_all;
+pub use count::next_event;
 pub use counted::Counted;
 pub use event::{bare, numbered};
 pub use fault::NumberFault;
-pub use known::{Known, number_among};
+pub use known::{Known, has_no_other, number_among};
 pub use turn::number_all;
