@@ -5,7 +5,7 @@ use Rattle.std.proofs.lemmas.Bool.Decides.{eqb_tells}
 use Rattle.std.proofs.lemmas.List.{get_or_default}
 use Rattle.std.proofs.lemmas.Nat.{mod_below}
 use Rattle.std.proofs.lemmas.Nat.Bits.{bit_at_set_other, bit_at_set_same}
-use Rattle.numbers.specs.Filter.{HasBit, KeepsTexts, MayHave, place_of}
+use Rattle.numbers.specs.Filter.{HasBit, HasBitOf, KeepsBits, KeepsTexts, hash_of, place_of}
 
 -- the words with the bit of a place set
 abbrev pub with_bit : List ℕ → ℕ → List ℕ
@@ -39,23 +39,20 @@ bit_stays words p q within has = by_word (eqb_tells (q / 64) (p / 64))
         ∙ here is
     by_word (inr (t, differ)) = ap (λ w. bit_at w (q % 64)) (get_or-set_other words (p / 64) (q / 64) (bit_or (get_or words (p / 64) 0) (1 * 2 ^ (p % 64) % 2 ^ 64)) 0 differ) ∙ has
 
--- the filter with a text more
-pub text_added : (words : List ℕ) (t : List ℕ) → place_of (length words) t / 64 < length words → MayHave (with_bit words (place_of (length words) t)) t
-text_added words t within =
-    let p = place_of (length words) t in
-    subst (λ n. HasBit (with_bit words (place_of (length words) t)) (place_of n t)) (sym (length-set words (p / 64) _)) (bit_here words p within)
-
-pub texts_kept : (words : List ℕ) (t : List ℕ) → place_of (length words) t / 64 < length words → KeepsTexts words (with_bit words (place_of (length words) t))
-texts_kept words t within u has =
-    let p = place_of (length words) t in
-    subst (λ n. HasBit (with_bit words (place_of (length words) t)) (place_of n u)) (sym (length-set words (p / 64) _)) (bit_stays words p (place_of (length words) u) within has)
-
--- as the code says it
-pub added : (words t : List ℕ) (n p w : ℕ) → n ≡ length words → p ≡ place_of n t → p / 64 < n → w ≡ get_or words (p / 64) w → MayHave (set words (p / 64) (bit_or w (1 * 2 ^ (p % 64) % 2 ^ 64))) t × KeepsTexts words (set words (p / 64) (bit_or w (1 * 2 ^ (p % 64) % 2 ^ 64)))
-added words t n p w long at within read =
+-- one bit of a hash is set, as the code says it
+pub bit_set : (words : List ℕ) (hash i n p w : ℕ) → n ≡ length words → p ≡ place_of (64 * n) hash i → p / 64 < n → w ≡ get_or words (p / 64) w → HasBitOf (set words (p / 64) (bit_or w (1 * 2 ^ (p % 64) % 2 ^ 64))) hash i × KeepsBits words (set words (p / 64) (bit_or w (1 * 2 ^ (p % 64) % 2 ^ 64)))
+bit_set words hash i n p w long at within read =
     let there : p / 64 < length words = subst (λ k. p / 64 < k) long within in
     let here : get_or words (p / 64) 0 ≡ w = sym (read ∙ get_or_default words (p / 64) w 0 there) in
-    let place : place_of (length words) t ≡ p = sym (at ∙ ap (λ k. place_of k t) long) in
-    let its : place_of (length words) t / 64 < length words = subst (λ q. q / 64 < length words) (sym place) there in
-    let both : MayHave (with_bit words p) t × KeepsTexts words (with_bit words p) = subst (λ q. MayHave (with_bit words q) t × KeepsTexts words (with_bit words q)) place (text_added words t its, texts_kept words t its) in
-    subst (λ v. MayHave (set words (p / 64) (bit_or v (1 * 2 ^ (p % 64) % 2 ^ 64))) t × KeepsTexts words (set words (p / 64) (bit_or v (1 * 2 ^ (p % 64) % 2 ^ 64)))) here both
+    let same : p ≡ place_of (64 * length (with_bit words p)) hash i = at ∙ ap (λ k. place_of (64 * k) hash i) (long ∙ sym (length-set words (p / 64) _)) in
+    let both : HasBitOf (with_bit words p) hash i × KeepsBits words (with_bit words p) = (subst (HasBit (with_bit words p)) same (bit_here words p there), λ q has. bit_stays words p q there has) in
+    subst (λ v. HasBitOf (set words (p / 64) (bit_or v (1 * 2 ^ (p % 64) % 2 ^ 64))) hash i × KeepsBits words (set words (p / 64) (bit_or v (1 * 2 ^ (p % 64) % 2 ^ 64)))) here both
+
+-- a bit of a hash stays set in a filter of as many words
+pub bit_kept : (old new : List ℕ) (hash i : ℕ) → length new ≡ length old → KeepsBits old new → HasBitOf old hash i → HasBitOf new hash i
+bit_kept old new hash i long keeps has = subst (λ n. HasBit new (place_of (64 * n) hash i)) (sym long) (keeps (place_of (64 * length old) hash i) has)
+
+-- and so does a text
+pub text_kept : (old new : List ℕ) → length new ≡ length old → KeepsBits old new → KeepsTexts old new
+text_kept old new long keeps t has =
+    (bit_kept old new (hash_of t) 0 long keeps has.0, bit_kept old new (hash_of t) 1 long keeps has.1, bit_kept old new (hash_of t) 2 long keeps has.2)

@@ -1,14 +1,14 @@
 //! An event with its number.
 
-ghost use Rattle.std.specs.Prelude.{◌≡◌, ◌≢◌, ◌+◌, ◌≤◌, [], ◌∷◌, IfErr, IfNone, IfOk, IfSome, OnOk, Some, codes, length, string_bytes, ℕ, List};
-ghost use Rattle.serde_json.specs.Data.{object, put, string};
+ghost use Rattle.std.specs.Prelude.{◌≡◌, ◌≢◌, [], ◌∷◌, IfNone, IfOk, IfSome, Some, codes, string_bytes, ℕ};
+ghost use Rattle.serde_json.specs.Data.{object};
 ghost use Rattle.serde_json.specs.View.{members_view, view};
-ghost use Rattle.attributes.specs.Event.{EventValue, members_of, text};
+ghost use Rattle.attributes.specs.Event.{EventValue, members_of};
 ghost use Rattle.attributes.specs.Fault.{IsEvent};
-ghost use Rattle.attributes.specs.Sequence.{number_of, sequence_of};
+ghost use Rattle.attributes.specs.Sequence.{number_of};
 ghost use Rattle.serde_json.specs.Written.{compact_text};
 ghost use Rattle.numbers.specs.Aside.{without};
-ghost use Rattle.numbers.specs.Numbered.{HasNumber, IsBare, with_sequence};
+ghost use Rattle.numbers.specs.Numbered.{HasNumber, IsBare};
 
 use crate::batch::refusal_at;
 use attributes::laws::text_reads_back;
@@ -41,36 +41,6 @@ pub(crate) fn members_of(alloc: Global, event: &Event) -> Result<Map<String, Val
         Some(members) => Ok(members),
         None => Err(AllocError),
     }
-}
-
-/// The event's members with the digits of its new number as `sequence`.
-fn put_number(
-    alloc: Global,
-    members: &mut Map<String, Value>,
-    number: Sequence,
-) -> Result<(), AllocError>
-    ensures { OnOk result ((t : List ℕ) × (sequence_of t ≡ Some number)
-        × (members_view members.new.entries
-        ≡ put (codes "sequence") (string t) (members_view members.old.entries))) }
-{
-    let digits = number.digits(alloc)?;
-    let name = String::from_str(alloc, "sequence")?;
-    drop(members.insert(name, Value::String(digits.into_string()))?);
-    Ok(())
-}
-
-/// The text of an event that the numberer gives its number.
-pub(crate) fn numbered_text(
-    alloc: Global,
-    event: &Event,
-    number: Sequence,
-) -> Result<String, AllocError>
-    ensures { IfOk result (λ s. (t : List ℕ) × (sequence_of t ≡ Some number)
-        × (string_bytes s ≡ text (with_sequence t event.now))) }
-{
-    let mut members = members_of(alloc, event)?;
-    put_number(alloc, &mut members, number)?;
-    Value::Object(members).to_string(alloc)
 }
 
 /// The one event of a list that was read again to change its number.

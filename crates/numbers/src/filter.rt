@@ -1,8 +1,8 @@
-//! A filter of texts, which takes a bit for each.
+//! A filter of texts, which takes three bits for each.
 
-ghost use Rattle.std.specs.Prelude.{◌≡◌, ◌≤◌, ◌<◌, ◌/◌, ◌↔◌, IsTrue};
+ghost use Rattle.std.specs.Prelude.{◌≡◌, ◌≤◌, ◌<◌, ◌*◌, ◌/◌, ◌↔◌, IsTrue, length};
 ghost use Rattle.std.specs.Int.{bit_at};
-ghost use Rattle.numbers.specs.Filter.{KeepsTexts, MayHave, hash_of, place_of};
+ghost use Rattle.numbers.specs.Filter.{HasBitOf, KeepsBits, KeepsTexts, MayHave, hash_of, place_of};
 
 use std::alloc::{AllocError, Global};
 use std::marker::Model;
@@ -13,7 +13,7 @@ const MIN_WORDS: u64 = 131_072;
 /// How many words a filter has at most: they take 16 MiB.
 const MAX_WORDS: u64 = 2_097_152;
 
-/// Texts, of which a bit each is kept. It may seem to have a text that was never added, but has
+/// Texts, of which three bits each are kept. It may seem to have a text that was never added, but has
 /// each that was.
 #[derive(Drop)]
 pub(crate) struct Filter {
@@ -42,14 +42,18 @@ fn hash_of(text: &str) -> u64
     hash
 }
 
-/// The place of a text's bit in a filter of so many words.
-fn place_of(words: u64, text: &str) -> u64
+/// The place of one of the three bits of a text's hash in a filter of so many words.
+fn place_of(words: u64, hash: u64, i: u64) -> u64
     requires some { 0 < words }
     requires few { words ≤ 2097152 }
-    ensures value { result ≡ place_of words text.now }
+    requires third { i < 3 }
+    ensures value { result ≡ place_of (64 * words) hash i }
     ensures within { result / 64 < words }
 {
-    hash_of(text) % (64 * words)
+    let bits = 64 * words;
+    let first = hash % bits;
+    let apart = hash / bits % bits;
+    (first + i * apart) % bits
 }
 
 /// Whether a word of the filter has the bit.
@@ -69,12 +73,33 @@ impl Filter {
         })
     }
 
+    /// Whether a bit of the hash is set in the filter.
+    fn has_bit_of(&self, hash: u64, i: u64) -> bool
+        requires { i < 3 }
+        ensures { IsTrue result ↔ HasBitOf self.now hash i }
+    {
+        let place = place_of(self.words.len() as u64, hash, i);
+        has_bit(self.words[(place / 64) as usize], place % 64)
+    }
+
+    /// Sets a bit of the hash in the filter.
+    fn set_bit_of(&mut self, hash: u64, i: u64)
+        requires { i < 3 }
+        ensures has { HasBitOf self.new hash i }
+        ensures keeps { KeepsBits self.old self.new }
+        ensures long { length self.new ≡ length self.old }
+    {
+        let place = place_of(self.words.len() as u64, hash, i);
+        let at = (place / 64) as usize;
+        self.words[at] |= 1 << (place % 64);
+    }
+
     /// Whether the filter may have the text. The time is that of a hash of its bytes.
     pub(crate) fn may_have(&self, text: &str) -> bool
         ensures { IsTrue result ↔ MayHave self.now text.now }
     {
-        let place = place_of(self.words.len() as u64, text);
-        has_bit(self.words[(place / 64) as usize], place % 64)
+        let hash = hash_of(text);
+        self.has_bit_of(hash, 0) && self.has_bit_of(hash, 1) && self.has_bit_of(hash, 2)
     }
 
     /// Adds a text to the filter, which takes no memory more. The time is that of a hash.
@@ -82,8 +107,9 @@ impl Filter {
         ensures has { MayHave self.new text.now }
         ensures keeps { KeepsTexts self.old self.new }
     {
-        let place = place_of(self.words.len() as u64, text);
-        let at = (place / 64) as usize;
-        self.words[at] |= 1 << (place % 64);
+        let hash = hash_of(text);
+        self.set_bit_of(hash, 0);
+        self.set_bit_of(hash, 1);
+        self.set_bit_of(hash, 2);
     }
 }

@@ -10,7 +10,7 @@ ghost use Rattle.inbox.specs.Ordered.{has};
 ghost use Rattle.numbers.specs.Counts.{HasText};
 ghost use Rattle.numbers.specs.Numbered.{AreBare, HasNoOther, HasNumber, HaveNumbers, IsBare};
 
-use crate::event::numbered_text;
+use crate::event::numbered;
 use attributes::{Batch, Event, Events, Sequence, Sequenced};
 use std::alloc::{AllocError, Global};
 use std::collections::BTreeMap;
@@ -115,8 +115,8 @@ fn is_row_of(alloc: Global, event: &Event, row: &Sequenced) -> Result<bool, Allo
     requires { IsBare event.now }
     ensures { IfOk result (λ is. IsTrue is ↔ ((n : ℕ) × HasNumber n event.now row.now)) }
 {
-    let given = numbered_text(alloc, event, row.number())?;
-    Ok(given.as_str() == row.event().text())
+    let given = numbered(alloc, event, row.number())?;
+    Ok(given.event().text() == row.event().text())
 }
 
 /// The number that the event has among these rows of a numberer, if it is there. Time and memory in

@@ -10,10 +10,11 @@ pub returns : goal.returns
 returns c =
     let e = c.args.event.now in
     let x = c.args.row.now in
-    let t = c.in_ok-given.ensures.0 in
-    let decides = bytes_eq-Decides c.as_str.result.now c.text.result.now in
-    let given : c.as_str.result.now ≡ text (with_sequence t e) = c.as_str.ensures.value ∙ c.in_ok-given.ensures.2 in
-    let own : c.text.result.now ≡ text x = c.text.ensures.text ∙ ap text c.event.ensures in (
-      λ is. (c.number.result, row_is e x t c.number.result c.requires (subst IsEvent c.event.ensures c.text.ensures.event) c.in_ok-given.ensures.1 (sym given ∙ decides.0 (sym c.eq.ensures ∙ is) ∙ own)),
-      λ has. c.eq.ensures ∙ decides.1 (given ∙ row_text e x t has.0 c.number.result c.in_ok-given.ensures.1 c.number.ensures has.1 ∙ sym own),
+    let h = c.in_ok-given.ensures.numbered in
+    let t = h.digits in
+    let decides = bytes_eq-Decides c.text.result.now c.text-2.result.now in
+    let given : c.text.result.now ≡ text (with_sequence t e) = c.text.ensures.text ∙ ap text (c.event.ensures ∙ h.is) in
+    let own : c.text-2.result.now ≡ text x = c.text-2.ensures.text ∙ ap text c.event-2.ensures in (
+      λ is. (c.number.result, row_is e x t c.number.result c.requires (subst IsEvent c.event-2.ensures c.text-2.ensures.event) h.number (sym given ∙ decides.0 (sym c.eq.ensures ∙ is) ∙ own)),
+      λ has. c.eq.ensures ∙ decides.1 (given ∙ row_text e x t has.0 c.number.result h.number c.number.ensures has.1 ∙ sym own),
     )

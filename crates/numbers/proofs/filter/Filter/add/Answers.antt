@@ -1,18 +1,25 @@
-use Rattle.std.proofs.Common.{◌≡◌, ◌*◌, ◌/◌, ◌%◌, ◌^◌, List, ℕ, bit_or, length, set, rules, subst}
-use Rattle.numbers.specs.Filter.{KeepsTexts}
-use Rattle.numbers.proofs.FilterLemmas.{added}
+use Rattle.std.proofs.Common.{◌∙◌, ℕ, subst}
+use Rattle.numbers.specs.Filter.{HasBitOf}
+use Rattle.numbers.proofs.FilterLemmas.{bit_kept, text_kept}
 use Rattle.numbers.proofs.filter.Filter.add.Goals as goal
 
 pub returns-clause-has : goal.returns-clause-has
 returns-clause-has c =
-    let long : c.len.result ≡ length c.self.inside.words.items = search rules in
-    (added c.self.inside.words.items c.args.text.now c.len.result c.place_of-place.result c.index_mut.result.now long c.place_of-place.ensures.value c.place_of-place.ensures.within c.index_mut.ensures.value).0
+    let one = c.set_bit_of.new.self in
+    let two = c.set_bit_of-2.new.self in
+    let three = c.set_bit_of-3.new.self in
+    let hash = c.hash_of-hash.result in
+    let second = c.set_bit_of-2.ensures in
+    let third = c.set_bit_of-3.ensures in
+    subst (λ (h : ℕ). HasBitOf three h 0 × HasBitOf three h 1 × HasBitOf three h 2) c.hash_of-hash.ensures (
+      bit_kept two three hash 0 third.long third.keeps (bit_kept one two hash 0 second.long second.keeps c.set_bit_of.ensures.has),
+      bit_kept two three hash 1 third.long third.keeps second.has,
+      third.has,
+    )
 
 pub returns-clause-keeps : goal.returns-clause-keeps
 returns-clause-keeps c =
-    let words = c.self.inside.words.items in
-    let long : c.len.result ≡ length c.self.inside.words.items = search rules in
-    let both = added words c.args.text.now c.len.result c.place_of-place.result c.index_mut.result.now long c.place_of-place.ensures.value c.place_of-place.ensures.within c.index_mut.ensures.value in
-    let place = c.place_of-place.result in
-    let new : List ℕ = set words (place / 64) (bit_or c.index_mut.result.now (1 * 2 ^ (place % 64) % 2 ^ 64)) in
-    subst (λ (old : List ℕ). KeepsTexts old new) c.self.view_is both.1
+    let first = c.set_bit_of.ensures in
+    let second = c.set_bit_of-2.ensures in
+    let third = c.set_bit_of-3.ensures in
+    text_kept c.args.self.now c.set_bit_of-3.new.self (third.long ∙ second.long ∙ first.long) (λ p has. third.keeps p (second.keeps p (first.keeps p has)))
