@@ -73,7 +73,7 @@ NoneLeaves base rows = (events : List EventValue) → AreBare events → IsEachO
 
 -- a numberer's opening is refused for this fault: as that of the table is; or this was opened, and
 -- isn't a numberer's; or it was opened, and its rows couldn't be read, or memory ran out while they
--- were counted, which may have shut the connection. Then it has the rows that it had
+-- were counted. Then it has the rows that it had, in the last case while the connection is open
 abbrev pub RejectsNumbers : State → State → NumbererFault → Type 0
 RejectsNumbers old new fault =
     ((given : TableFault) × (fault ≡ of_table given) × RejectsOpening old new given)
