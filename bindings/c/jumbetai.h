@@ -290,9 +290,9 @@ typedef struct jumbetai_numbers jumbetai_numbers;
  * sources that it numbers: each begins behind `base`, which is given again at each opening, else it
  * is JUMBETAI_FOREIGN. The file is that of a site, whose events are those that were numbered; it is
  * made, opened and kept busy as by jumbetai_open_file, with a cache of the same kind, and a process
- * that was forked leaves it alone. Time in proportion to its events, and memory until they are
- * counted; what stays, beside the cache and some bytes for each page of the file, is the last
- * number of each source and 1 to 17 MiB. `*numbers` is null where it isn't done. */
+ * that was forked leaves it alone. Time in proportion to its events; memory, beside the cache and
+ * some bytes for each page of the file, for the last number of each source, and 1 to 17 MiB.
+ * `*numbers` is null where it isn't done. */
 int jumbetai_open_numbers(const char *path, uint32_t cache_mib, uint64_t base,
                           jumbetai_numbers **numbers);
 
