@@ -167,6 +167,30 @@ def test_what_came_lately_has_its_number(room: Room) -> None:
     assert room.run("site cover --db g.db").out == '{"sources":{"/g":[[1,3]]},"version":1}\n'
 
 
+def memory_of(pid: int) -> int:
+    """The most memory that a process has had, in bytes."""
+    with open(f"/proc/{pid}/status", encoding="ascii") as it:
+        return next(1024 * int(line.split()[1]) for line in it if line.startswith("VmHWM:"))
+
+
+@pytest.mark.slow
+def test_an_opening_counts_each_page_of_rows_in_little_memory(room: Room) -> None:
+    """Rows of three pages and of 25 are all counted, and ten times as many take hardly more memory."""
+    taken = []
+    for count in (2_500, 25_000):
+        room.put({"given": lines(*(seen(it, source="/m") for it in range(count)))})
+        assert room.run(f"site number --db m{count}.db given >/dev/null").status == 0
+        with room.start(f"SITE_CACHE_MIB=1 exec site number --db m{count}.db", stdin=subprocess.PIPE) as ran:
+            assert ran.stdin and ran.stdout
+            for it, number in ((0, 1), (count - 1, count), (count, count + 1)):
+                ran.stdin.write(lines(seen(it, source="/m")).encode())
+                ran.stdin.flush()
+                assert text_of(ran.stdout.readline()) == page(seen(it, number, "/m"))
+            taken.append(memory_of(ran.pid))
+            ran.kill()
+    assert taken[1] - taken[0] < 4 << 20, f"{taken} bytes"
+
+
 def followed(new: int) -> str:
     """What `follow` says of 250 lines of an event each, which are all new or all there."""
     return "".join(acknowledgement(it, new, 1 - new) for it in range(1, 251))

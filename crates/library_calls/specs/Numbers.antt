@@ -91,7 +91,7 @@ module _ {S : Type 0} (g : Ghosts S) where
 
 module _ (D : Type 0) (g : disk.Ghosts D) where
   -- a connection was opened over the files, and no numberer with this base was found or made there:
-  -- the database is as it was, and its files were closed so
+  -- the database, where it is open, is as it was, and its files were closed so
   pub record RefusesNumbers (base status : ℕ) : Type 0 where
     pub first : Held (FileStore D g)
     pub last : Held (FileStore D g)

@@ -35,8 +35,8 @@ NumbersInto base old new lists answers = HasCleanDisk new → IsTrue new.is_open
     × IsNumberer base events rows × AnswersEach (from base) events lists answers
     × IsInbox new.now (append_new key_cmp rows (joined answers))
 
--- the numberer couldn't be had: nothing was read and nothing written, and the database has the rows
--- that it had
+-- the numberer couldn't be had: nothing was read and nothing written, and the database, where it is
+-- open, has the rows that it had
 pub record StaysUnnumbered (f : NumberingFault) (input input' out out' err err' : Option (List ℕ))
     (old new : State) : Type 0 where
   pub why : NumbererFault
