@@ -121,11 +121,17 @@ BA, BB, LAST = seen("ba", source="/b"), seen("bb", source="/b"), 922337203685477
 
 # Where numbers begin and end, and files that no numberer made.
 test_bases = rows(
-    {"sequenced": lines(seen("s", 5, "/s")), "no.db": "this is no database, but a text that is long enough to be looked at as one\n" * 20},
+    {
+        "sequenced": lines(seen("s", 5, "/s")),
+        "twice": lines(seen("ba", 103, "/b")),
+        "no.db": "this is no database, but a text that is long enough to be looked at as one\n" * 20,
+    },
     "site follow --db s.db <sequenced",
     numbers("a base", lines(BA, BB), page(seen("ba", 101, "/b")) + page(seen("bb", 102, "/b")), db="b.db", more="--base 100"),
     numbers("the same base again", lines(BB), page(seen("bb", 102, "/b")), db="b.db", more="--base 100"),
     numbers("another base", lines(BA), "", "site: b.db: Foreign\n", 1, "b.db"),
+    "cp b.db two.db && site follow --db two.db <twice",
+    numbers("a text that has two numbers", lines(BB), "", "site: two.db: Foreign\n", 1, "two.db", "--base 100"),
     numbers("a site's file that no numberer made", lines(BA), "", "site: s.db: Foreign\n", 1, "s.db"),
     numbers("a file that is no database", lines(BA), "", "site: no.db: Store\n", 1, "no.db"),
     numbers("the last number", lines(seen("t", source="/t")), page(seen("t", LAST, "/t")), db="t.db", more=f"--base {LAST - 1}"),
