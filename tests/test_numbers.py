@@ -194,7 +194,7 @@ def test_an_opening_counts_each_page_of_rows_in_little_memory(room: Room) -> Non
                 assert text_of(ran.stdout.readline()) == page(seen(it, number, "/m"))
             taken.append(memory_of(ran.pid))
             ran.kill()
-    assert taken[1] - taken[0] < 4 << 20, f"{taken} bytes"
+    assert taken[1] - taken[0] < 8 << 20, f"{taken} bytes"
 
 
 def followed(new: int) -> str:
