@@ -4,9 +4,10 @@
  *     cc -O2 -I bindings/c bench/hold_numbers.c out/library/libjumbetai.a -o /tmp/hold_numbers
  *     /tmp/hold_numbers FOLDER [EVENTS] [ROUNDS]
  *
- * The files are made in the folder, a new pair in each round, and each call is synced. Of all
- * rounds the least counts. A row has microseconds an event: to take new events, to number them, the
- * ratio; and to number them again by the same numberer. */
+ * The files are made in the folder, a new pair in each round, and each call is synced. What an
+ * earlier run left there is removed. Of all rounds the least counts. A row has microseconds an
+ * event: to take new events, to number them, the ratio; and to number them again by the same
+ * numberer. */
 #include <stdio.h>
 #include <stdlib.h>
 #include <string.h>
@@ -61,6 +62,18 @@ static size_t batch(char *at, long first, long count, int has_number, int has_da
 
 static double least(double before, double now) { return now < before ? now : before; }
 
+/* The path of a file that is not there: of one that was, events would come again. */
+static void new_path(char *path, size_t size, const char *folder, const char *what, long each,
+                     int has_data, int round) {
+    const char *const ends[] = {"", "-wal", "-shm"};
+    char name[1024];
+    snprintf(path, size, "%s/%s-%ld-%d-%d.db", folder, what, each, has_data, round);
+    for (size_t it = 0; it < sizeof ends / sizeof *ends; it++) {
+        snprintf(name, sizeof name, "%s%s", path, ends[it]);
+        remove(name);
+    }
+}
+
 static void measure(const char *folder, long events, int rounds, long each, int has_data) {
     char path[1024], *bytes = malloc((size_t)each * EVENT + 3);
     double took = 1e9, numbered = 1e9, again = 1e9;
@@ -69,9 +82,9 @@ static void measure(const char *folder, long events, int rounds, long each, int 
         jumbetai_site *site;
         jumbetai_numbers *numbers;
         double begun, spent[3] = {0, 0, 0};
-        snprintf(path, sizeof path, "%s/site-%ld-%d-%d.db", folder, each, has_data, round);
+        new_path(path, sizeof path, folder, "site", each, has_data, round);
         must(jumbetai_open_file(path, 0, &site), "open the site");
-        snprintf(path, sizeof path, "%s/numbers-%ld-%d-%d.db", folder, each, has_data, round);
+        new_path(path, sizeof path, folder, "numbers", each, has_data, round);
         must(jumbetai_open_numbers(path, 0, 0, &numbers), "open the numberer");
         for (long it = 0; it < events; it += each) {
             size_t length = batch(bytes, it, each, 1, has_data);
