@@ -291,8 +291,8 @@ typedef struct jumbetai_numbers jumbetai_numbers;
  * is JUMBETAI_FOREIGN. The file is that of a site, whose events are those that were numbered; it is
  * made, opened and kept busy as by jumbetai_open_file, with a cache of the same kind, and a process
  * that was forked leaves it alone. Time in proportion to its events; memory, beside the cache and
- * some bytes for each page of the file, for the last number of each source, and 1 to 17 MiB.
- * `*numbers` is null where it isn't done. */
+ * some bytes for each page of the file, for the last number of each source, and 1 to 17 MiB; while
+ * the file is tested, some 420 bytes an event too. `*numbers` is null where it isn't done. */
 int jumbetai_open_numbers(const char *path, uint32_t cache_mib, uint64_t base,
                           jumbetai_numbers **numbers);
 

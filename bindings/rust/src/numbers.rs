@@ -30,7 +30,8 @@ impl Numbers {
     /// which is given again at each opening, else it is [`Error::Foreign`]. Of the file so many MiB
     /// are kept in memory, as by [`Site::open_with_cache`](crate::Site::open_with_cache). Time in
     /// proportion to the events; memory, beside that cache and some bytes for each page of the file,
-    /// for the last number of each source, and 1 to 17 MiB.
+    /// for the last number of each source, and 1 to 17 MiB; while the file is tested, some 420 bytes
+    /// an event too.
     pub fn open(path: impl AsRef<Path>, mib: u32, base: u64) -> Result<Numbers, Error> {
         fitting(version())?;
         let path = path_text(path.as_ref())?;
