@@ -37,7 +37,7 @@ use Rattle.inbox.specs.Ordered.{append_new, has}
 use Rattle.database_layout.specs.Tables.{inbox2}
 use Rattle.inbox_table.specs.Rows.{AreNumbered, IsEachOnce, IsNumbered, block_of_event, number_in, row_of, rows_from}
 use Rattle.inbox_table.specs.declared.version.Version.TheVariants.{Two}
-use Rattle.inbox_table.specs.steps.Turns.{Home, IsFilled, IsHome, KeepsOthers, Puts as PutsEvent, PutsGroup, PutsNew, IsKeeping, params_from, params_of, schema_at, tree_at}
+use Rattle.inbox_table.specs.steps.Turns.{Home, IsFilled, IsHome, KeepsOthers, Puts as PutsEvent, PutsGroup, PutsNew, RunsGroup, IsKeeping, params_from, params_of, schema_at, tree_at}
 use Rattle.inbox_table.proofs.HomeLemmas.{listed, one_index, others_same, works_none}
 use Rattle.inbox_table.proofs.TextLemmas.{clauses, group_terms, index_of, insert_group_is, insert_group_text, insert_new_is, insert_new_text, insert_text, insert_is, terms}
 use Rattle.inbox_table.proofs.EventLemmas.{append_twice, numbered_more, once_more}
@@ -293,22 +293,22 @@ puts_new_inside old last place e count numbered x = record {
 
 -- ---- parts of a list
 
-take_next : {X : Type 0} (L : List X) (i : ℕ) (x : X) → slice_get L i ≡ Some x → take (suc i) L ≡ take i L ++ x ∷ []
+pub take_next : {X : Type 0} (L : List X) (i : ℕ) (x : X) → slice_get L i ≡ Some x → take (suc i) L ≡ take i L ++ x ∷ []
 take_next [] i x is = absurd (cc)
 take_next (y ∷ L) zero x is = (let same : y ≡ x = cc in ap (λ z. z ∷ []) same)
 take_next (y ∷ L) (suc i) x is = ap (λ l. y ∷ l) (take_next L i x is)
 
-behind : {X : Type 0} (L : List X) (from i : ℕ) → slice_get (drop from L) i ≡ slice_get L (from + i)
+pub behind : {X : Type 0} (L : List X) (from i : ℕ) → slice_get (drop from L) i ≡ slice_get L (from + i)
 behind L zero i = ap (slice_get L) (let n : i ≡ 0 + i = omega arith in n)
 behind [] (suc from) i = refl
 behind (x ∷ L) (suc from) i = behind L from i ∙ ap (slice_get (x ∷ L)) (let n : suc (from + i) ≡ suc from + i = omega arith in n)
 
-length_within : {X : Type 0} (L : List X) (i : ℕ) (x : X) → slice_get L i ≡ Some x → length (take i L) ≡ i
+pub length_within : {X : Type 0} (L : List X) (i : ℕ) (x : X) → slice_get L i ≡ Some x → length (take i L) ≡ i
 length_within [] i x is = absurd (cc)
 length_within (y ∷ L) zero x is = refl
 length_within (y ∷ L) (suc i) x is = ap suc (length_within L i x is)
 
-params_more : (place : ℕ) (L : List EventValue) (e : EventValue) → params_from place (L ++ e ∷ []) ≡ params_from place L ++ params_of (place + length L) e
+pub params_more : (place : ℕ) (L : List EventValue) (e : EventValue) → params_from place (L ++ e ∷ []) ≡ params_from place L ++ params_of (place + length L) e
 params_more place [] e = ap (λ n. params_of n e) (let n : place ≡ place + 0 = omega arith in n)
 params_more place (x ∷ L) e =
     ap (λ ps. params_of place x ++ ps) (params_more (suc place) L e ∙ ap (λ n. params_from (suc place) L ++ params_of n e) (let n : suc place + length L ≡ place + suc (length L) = omega arith in n))
@@ -337,7 +337,7 @@ length_behind (suc n) (x ∷ L) low = let it = length_behind n L (omega (arith, 
 pub length_part : {X : Type 0} (n from : ℕ) (L : List X) → from + n ≤ length L → length (take n (drop from L)) ≡ n
 length_part n from L low = let rest = length_behind from L (omega (arith, low)) in take_some n (drop from L) (omega (arith, low, rest))
 
-get_taken : {X : Type 0} (n : ℕ) (L : List X) (i : ℕ) → i < n → slice_get (take n L) i ≡ slice_get L i
+pub get_taken : {X : Type 0} (n : ℕ) (L : List X) (i : ℕ) → i < n → slice_get (take n L) i ≡ slice_get L i
 get_taken zero L i low = absurd (omega (arith, low))
 get_taken (suc n) [] i low = refl
 get_taken (suc n) (x ∷ L) zero low = refl
@@ -437,6 +437,15 @@ puts_then old mid last place e is_new same puts = record {
   committed = puts.committed ∙ same.0.committed_is;
   mode = puts.mode;
 }
+
+-- the INSERT of eight events puts them in, or leaves the transaction as it was
+group_put : (old last : State) (rows : ℕ) (L : List EventValue) (is_in : Bool) → length L ≡ 8 → AreNumbered L → IsTrue old.in_transaction → RunsGroup (params_from (rows + 1) L) old last is_in → PutsGroup rows L old last is_in
+group_put old last rows L true is are inside ran = puts_group_inside old last rows L ran.0 is are inside (rw add-one at ran.1)
+group_put old last rows L false is are inside same = same
+
+pub group_put_if : {A : Type 0} (old last : State) (rows : ℕ) (L : List EventValue) (result : Result Bool A) → length L ≡ 8 → AreNumbered L → IsTrue old.in_transaction → IfOk result (RunsGroup (params_from (rows + 1) L) old last) → IfOk result (PutsGroup rows L old last)
+group_put_if old last rows L (Ok is_in) is are inside ran = group_put old last rows L is_in is are inside ran
+group_put_if old last rows L (Err error) is are inside ran = tt
 
 pub keeps_again : {rows : ℕ} {L left : List EventValue} {old mid last : State} {fresh : ℕ} → IsUnchanged old mid → IsKeeping rows L left mid last fresh → IsKeeping rows L left old last fresh
 keeps_again {old = old} {last = last} same k = record {

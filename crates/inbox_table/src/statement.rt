@@ -8,8 +8,8 @@ ghost use Rattle.inbox_table.specs.Rows.{AreNumbered, IsNumbered};
 ghost use Rattle.sqlite.specs.State.{HasCleanDisk, Survives, ExecutesInside};
 ghost use Rattle.inbox_table.specs.Calls.{IsTold, KeepEffect, MayTake, Stands};
 ghost use Rattle.inbox_table.specs.Fault.{IsOfStore};
-ghost use Rattle.inbox_table.specs.Texts.{insert_group_text, insert_new_text, insert_text};
-ghost use Rattle.inbox_table.specs.steps.Turns.{IsKeeping, Puts, PutsGroup, PutsNew, params_from, params_of};
+ghost use Rattle.inbox_table.specs.Texts.{insert_new_text, insert_text};
+ghost use Rattle.inbox_table.specs.steps.Turns.{IsKeeping, Puts, PutsGroup, PutsNew, RunsGroup, params_from, params_of};
 ghost use Rattle.database_layout.specs.States.{KeepsCommitIfRefused};
 
 use crate::fault::TableFault;
@@ -174,10 +174,10 @@ fn put<S: Alter>(
 }
 
 /// How many events one INSERT puts in.
-const GROUP: u64 = 8;
+pub(crate) const GROUP: u64 = 8;
 
 /// Adds the values by which an event is put into the inbox's table at a place.
-fn push_values<'a>(
+pub(crate) fn push_values<'a>(
     values: &mut Vec<ValueRef<'a>>,
     place: u64,
     event: &'a Sequenced,
@@ -221,23 +221,31 @@ fn values_of<'a, E: Listed>(
     Ok(values)
 }
 
-/// Runs the INSERT of eight events that are new to the inbox's table, with their values.
-fn insert_group<S: Alter>(
+/// Runs the INSERT of eight events that are new to the inbox's table, with their values; answers
+/// whether they are in. Where they aren't, one of them was there or came twice, and the transaction
+/// is as it was.
+pub(crate) fn insert_group<S: Alter>(
     tx: &mut Transaction<'_, S>,
     values: &[ValueRef<'_>],
-) -> Result<usize, Error>
+) -> Result<bool, Error>
     ensures same_reference { tx.new.conn.ghost_name ≡ tx.old.conn.ghost_name }
     ensures runs { HasCleanDisk (state S.Store tx.new.conn.now)
         → IsTrue (state S.Store tx.old.conn.now).in_transaction
-        → ExecutesInside 0 insert_group_text (bound values.now)
-        (state S.Store tx.old.conn.now) (state S.Store tx.new.conn.now) result }
+        → IfOk result (RunsGroup (bound values.now)
+        (state S.Store tx.old.conn.now) (state S.Store tx.new.conn.now)) }
+    ensures failed { KeepsCommitIfRefused (state S.Store tx.old.conn.now)
+        (state S.Store tx.new.conn.now) result }
     ensures survives { Survives
         (state S.Store tx.old.conn.now) (state S.Store tx.new.conn.now) (λ _. ⊥) }
 {
-    tx.execute(
+    match tx.execute(
         "INSERT INTO inbox2 (place, source, id, number, body, block) VALUES (?1, ?2, ?3, ?4, ?5, ?6), (?7, ?8, ?9, ?10, ?11, ?12), (?13, ?14, ?15, ?16, ?17, ?18), (?19, ?20, ?21, ?22, ?23, ?24), (?25, ?26, ?27, ?28, ?29, ?30), (?31, ?32, ?33, ?34, ?35, ?36), (?37, ?38, ?39, ?40, ?41, ?42), (?43, ?44, ?45, ?46, ?47, ?48)",
         values,
-    )
+    ) {
+        Ok(_) => Ok(true),
+        Err(Error::SqliteFailure(ErrorCode::ConstraintViolation(_))) => Ok(false),
+        Err(error) => Err(error),
+    }
 }
 
 /// Puts eight of the events, from this one on, into the inbox's table behind so many rows, as such
@@ -264,11 +272,7 @@ fn put_group<S: Alter, E: Listed>(
         (state S.Store tx.old.conn.now) (state S.Store tx.new.conn.now) (λ _. ⊥) }
 {
     let values = values_of(alloc, rows + 1, events, from)?;
-    match insert_group(tx, values.as_slice()) {
-        Ok(_) => Ok(true),
-        Err(Error::SqliteFailure(ErrorCode::ConstraintViolation(_))) => Ok(false),
-        Err(error) => Err(error),
-    }
+    insert_group(tx, values.as_slice())
 }
 
 /// One more of the events new to the inbox's table, if this is new.

@@ -1,5 +1,5 @@
 -- The turns of a transaction that takes events.
-use Rattle.std.specs.Prelude.{◌≡◌, ◌≢◌, ℕ, suc, pos, ◌+◌, Bool, true, false, not, List, [], ◌∷◌, ◌++◌, length, IsPermutation, IsTrue}
+use Rattle.std.specs.Prelude.{◌≡◌, ◌≢◌, ℕ, suc, pos, ◌+◌, Bool, true, false, not, List, [], ◌∷◌, ◌++◌, length, IsPermutation, IsTrue, Ok}
 use Rattle.std.specs.List.{AllByRecursion}
 use Rattle.sqlite_value.specs.declared.value.Value.TheVariants.{Int, Text as Words}
 use Rattle.sqlite_value.specs.Order.{Row}
@@ -7,7 +7,7 @@ use Rattle.sqlite_schema.specs.declared.schema.Schema.{Schema}
 use Rattle.sqlite_schema.specs.declared.schema.Table.{Table}
 use Rattle.sqlite_trees.specs.Tree.{Trees}
 use Rattle.sqlite.specs.Effect.{Database, IsDatabase}
-use Rattle.sqlite.specs.State.{State, IsUnchanged}
+use Rattle.sqlite.specs.State.{State, IsUnchanged, ExecutesInside}
 use Rattle.attributes.specs.Event.{EventValue, id_of, source_of, text}
 use Rattle.database_layout.specs.Layout.{HasInbox, HasInbox2, inbox_tree, schema_in}
 use Rattle.database_layout.specs.Making.{both_in, upgraded}
@@ -16,6 +16,7 @@ use Rattle.inbox.specs.KeyOrder.{key_cmp}
 use Rattle.inbox.specs.Ordered.{append_new, has}
 use Rattle.inbox_table.specs.Calls.{AreFreshEach, joined}
 use Rattle.inbox_table.specs.Rows.{AreNumbered, IsEachOnce, block_of_event, number_in, rows_from}
+use Rattle.inbox_table.specs.Texts.{insert_group_text}
 use Rattle.inbox_table.specs.declared.version.Version.TheVariants.{Two}
 
 -- where events are put into an inbox: the table of a layout, or one that an upgrade made beside
@@ -108,6 +109,17 @@ pub record IsKeeping (rows : ℕ) (all left : List EventValue) (old now : State)
 abbrev pub PutsGroup : ℕ → List EventValue → State → State → Bool → Type 0
 PutsGroup rows L old new true = IsKeeping rows L [] old new (length L)
 PutsGroup rows L old new false = IsUnchanged old new
+
+-- within a transaction the INSERT of eight events ran with these values; or the inbox's table refused
+-- them, and the transaction is as it was
+abbrev pub RunsGroup : Row → State → State → Bool → Type 0
+RunsGroup params old new true =
+    (count : ℕ) × ExecutesInside 0 insert_group_text params old new (Ok count)
+RunsGroup params old new false = IsUnchanged old new
+
+-- each of these lists given to an inbox's table has one event
+abbrev pub AreSingle : List (List EventValue) → Type 0
+AreSingle lists = AllByRecursion (λ L. length L ≡ 1) lists
 
 -- the inbox once the events of lists were put in behind so many rows, and these lists are left
 pub record IsTakingEach (h : Home) (rows : ℕ) (all left : List (List EventValue))

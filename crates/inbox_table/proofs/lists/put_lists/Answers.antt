@@ -1,56 +1,42 @@
-use Rattle.std.proofs.Common.{◌≡◌, length-append, ◌+◌, ◌++◌, ◌≤◌, ◌<◌, ◌^◌, [], ◌∷◌, length, drop, sum, refl, subst, ◌∙◌, arith, rules, sym}
-use Rattle.std.proofs.lemmas.List.{drop_all}
-use Rattle.sqlite.specs.State.{KeepsCommit}
+use Rattle.std.proofs.Common.{◌≡◌, ◌≤◌, ℕ, [], ◌*◌, ◌+◌, ◌-◌, ◌++◌, ◌∙◌, ap, arith, drop, length, length-append, min, refl, subst, sum, sym, take}
+use Rattle.std.proofs.lemmas.List.Sums.{sum_by-append}
 use Rattle.sqlite.specs.Held.{state}
-use Rattle.sqlite.proofs.InsideLemmas.{keeps_then}
 use Rattle.sqlite.proofs.StateLemmas.{survives_then}
 use Rattle.inbox_table.specs.Calls.{joined}
-use Rattle.inbox_table.specs.steps.Turns.{IsKeeping, IsKeepingEach}
-use Rattle.inbox_table.proofs.KeepLemmas.{kept_commit}
-use Rattle.inbox_table.proofs.ListsLemmas.{each_commit, each_first, each_next, item_is, joined_at, sum_more}
-use Rattle.inbox_table.proofs.ReadLemmas.{survives_none}
+use Rattle.inbox_table.specs.steps.Turns.{IsKeepingEach}
+use Rattle.inbox_table.proofs.InsertLemmas.{part_and_rest}
+use Rattle.inbox_table.proofs.ListsLemmas.{each_more, joined_both}
 use Rattle.inbox_table.proofs.lists.put_lists.Goals as goal
 
-pub loop-i-init : goal.loop-i-init
-loop-i-init g c =
-    let start = state g.S.Store c.args.tx.now.conn.now in
-    let lists = c.args.lists.now in (
-      refl,
-      survives_none start,
-      (λ clean inside. subst (λ each. IsKeepingEach c.args.rows lists lists start start 0 each) (sym c.empty-each.ensures) (each_first c.args.rows lists start inside)),
-      omega arith,
-      rw c.empty-each.ensures refl,
-      rw c.empty-each.ensures refl,
-    )
-
-pub put_all-requires : goal.put_all-requires
-put_all-requires g c =
-    let more = joined_at c.args.lists.now c.loop-i.i c.at.result.now c.at.ensures in
-    omega (arith, more, c.loop-i.invariant.3, c.requires)
-
-pub loop-i-preserved : goal.loop-i-preserved
-loop-i-preserved g c =
-    let inv = c.loop-i.invariant in
+pub loop-group-preserved : goal.loop-group-preserved
+loop-group-preserved g c =
+    let inv = c.loop-group.invariant in
     let old = state g.S.Store c.args.tx.now.conn.now in
-    let mid = state g.S.Store c.loop-i.tx.conn.now in
-    let now = state g.S.Store c.put_all.new.tx.conn.now in
+    let mid = state g.S.Store c.loop-group.tx.conn.now in
+    let now = state g.S.Store c.put_part.new.tx.conn.now in
     let lists = c.args.lists.now in
-    let L = c.at.result.now in
-    let grown : c.push.new.self ≡ c.loop-i.each ++ c.in_ok-fresh.fresh ∷ [] = search rules in (
-      c.put_all.ensures.same_reference ∙ inv.0,
-      survives_then old mid now _ _ (λ _. ⊥) (λ _ db none. none) (λ _ db none. none) inv.1 c.put_all.ensures.survives,
+    let from = c.loop-group.group * 8 in
+    let to = c.min-to.result in
+    let fresh = c.loop-group.all in
+    let low : from ≤ length lists = omega (arith, c.loop-group-test.true, c.div_ceil-group-end.ensures, c.len-count.ensures) in
+    let at : to ≡ min ((c.loop-group.group + 1) * 8) (length lists) = omega (arith, c.min-to.ensures, c.saturating_add.ensures, c.len-count.ensures, c.len-count.type_inv) in
+    let was : min from (length lists) ≡ from = omega (arith, low) in
+    let part = take (to - from) (drop from lists) in
+    let parts = part_and_rest lists from to (omega (arith, at, low)) (omega (arith, at)) in
+    let grown = c.in_ok-append.ensures.ok in
+    let more = ap length (ap joined parts ∙ joined_both part (drop to lists)) ∙ length-append (joined part) (joined (drop to lists)) in
+    let left : fresh + c.total-all.result + length (joined (drop to lists)) ≤ length (joined lists) =
+    omega (arith, more, subst (λ n. fresh + length (joined (drop n lists)) ≤ length (joined lists)) was inv.3, c.in_ok-part.ensures.few, c.total-all.ensures) in (
+      c.put_part.ensures.same_reference ∙ inv.0,
+      survives_then old mid now _ _ (λ _. ⊥) (λ _ db none. none) (λ _ db none. none) inv.1 c.put_part.ensures.survives,
       (λ clean inside.
-          let so_far = inv.2 (omega (arith, c.put_all.ensures.survives.clean, clean)) inside in
-          subst (λ each. IsKeepingEach c.args.rows lists (drop (c.loop-i.i + 1) lists) old now (c.loop-i.all + c.in_ok-fresh.fresh) each) (sym grown)
-          (each_next c.args.rows lists (drop (c.loop-i.i + 1) lists) L old mid now c.loop-i.all c.in_ok-fresh.fresh c.loop-i.each
-          (subst (λ left. IsKeepingEach c.args.rows lists left old mid c.loop-i.all c.loop-i.each) (item_is lists c.loop-i.i L c.at.ensures) so_far)
-          (c.in_ok-fresh.ensures.keeping clean so_far.mode))),
-      (let more = joined_at lists c.loop-i.i L c.at.ensures in omega (arith, more, inv.3, c.in_ok-fresh.ensures.few)),
-      (let all = sum_more c.loop-i.each c.in_ok-fresh.fresh in let e : c.loop-i.all + c.in_ok-fresh.fresh ≡ sum (c.loop-i.each ++ c.in_ok-fresh.fresh ∷ []) = omega (arith, all, inv.4) in rw grown e),
-      (let more = length-append c.loop-i.each (c.in_ok-fresh.fresh ∷ []) in let e : length (c.loop-i.each ++ c.in_ok-fresh.fresh ∷ []) ≡ c.loop-i.i + 1 = omega (arith, more, inv.5) in rw grown e),
+          let so_far = inv.2 (omega (arith, c.put_part.ensures.survives.clean, clean)) inside in
+          let before = subst (λ n. IsKeepingEach c.args.rows lists (drop n lists) old mid fresh c.loop-group.each) was so_far in
+          subst (λ n. IsKeepingEach c.args.rows lists (drop n lists) old now (fresh + c.total-all.result) c.append.new.each) at
+          (subst (λ each. IsKeepingEach c.args.rows lists (drop to lists) old now (fresh + c.total-all.result) each) (sym grown)
+          (each_more c.args.rows lists (drop to lists) part old mid now fresh c.total-all.result c.loop-group.each c.in_ok-part.part (subst (λ all. IsKeepingEach c.args.rows lists all old mid fresh c.loop-group.each) parts before)
+          (subst (λ n. IsKeepingEach (c.args.rows + fresh) part [] mid now n c.in_ok-part.part) (sym c.total-all.ensures) (c.in_ok-part.ensures.keeping clean so_far.mode))))),
+      subst (λ n. fresh + c.total-all.result + length (joined (drop n lists)) ≤ length (joined lists)) at left,
+      (let both = ap sum grown ∙ sum_by-append (λ (x : ℕ). x) c.loop-group.each c.in_ok-part.part in omega (arith, both, inv.4, c.total-all.ensures)),
+      (let both = ap length grown ∙ length-append c.loop-group.each c.in_ok-part.part in omega (arith, both, inv.5, c.in_ok-part.ensures.one_each, at, was, low)),
     )
-
-pub overflow_add-all : goal.overflow_add-all
-overflow_add-all g c =
-    let more = joined_at c.args.lists.now c.loop-i.i c.at.result.now c.at.ensures in
-    omega (arith, more, c.loop-i.invariant.3, c.requires, c.in_ok-fresh.ensures.few)
