@@ -1,6 +1,6 @@
-/* What the proved library exports, as site.c and outbox.c call it. A site lies in room of
- * jumbetai_site_size() bytes that the caller gives by pointer, aligned as malloc aligns; it isn't
- * copied or moved while the site is open. */
+/* What the proved library exports, as the C of this folder calls it. A site lies in room that the
+ * caller gives by pointer, aligned as malloc aligns; it isn't copied or moved while the site is
+ * open. */
 #ifndef JUMBETAI_EXPORTS_H
 #define JUMBETAI_EXPORTS_H
 
@@ -34,20 +34,34 @@ struct jumbetai_set_lag {
     uint64_t lacking, ahead, blocks;
 };
 
+/* A site, in memory or over files, in room of jumbetai_site_size() bytes. */
 size_t jumbetai_site_size(void);
+/* In memory, without events. */
 void jumbetai_site_open(void *at);
+
+/* Two open files of a database, for reading and writing, by their descriptors: its log, and the
+ * database file. Both are locked and nobody else's, hold what the disk holds, and are the library's
+ * from jumbetai_site_open_files on, which closes them in the end. key and seed: drawn at random.
+ * cache_mib: how many MiB of the database are kept in memory, 0 for what the library finds fit. */
+struct jumbetai_files {
+    int32_t log, db;
+    uint64_t key, seed, cache_mib;
+};
+
+/* Over files. Where it is refused a site that isn't open lies in the room, which is closed too. */
+void jumbetai_site_open_files(void *at, struct jumbetai_files *files, struct jumbetai_reply *reply);
 void jumbetai_site_take(void *at, const unsigned char *bytes, size_t length,
                         struct jumbetai_reply *reply);
-void jumbetai_site_check(void *at, const unsigned char *bytes, size_t length,
+/* Bodies of one transaction of a site over files: each is offered, and refused (2, 3) or not; all
+ * are kept; it is asked what became of the one at a place. At want of memory (1) all that were
+ * offered are let go, as by any call but these three. */
+void jumbetai_site_offer(void *at, const unsigned char *bytes, size_t length,
                          struct jumbetai_reply *reply);
-void jumbetai_site_ask(void *at, uint32_t question, struct jumbetai_reply *reply);
-void jumbetai_site_summary(void *at, struct jumbetai_reply *reply);
-void jumbetai_site_delta(void *at, const unsigned char *summary, size_t length, uint64_t from,
-                         struct jumbetai_reply *reply);
-void jumbetai_site_page(void *at, uint64_t from, struct jumbetai_reply *reply);
-void jumbetai_site_keep_views(void *at, const unsigned char *seed, size_t length,
-                              struct jumbetai_reply *reply);
-/* as jumbetai_file_tell */
+void jumbetai_site_keep(void *at, struct jumbetai_reply *reply);
+void jumbetai_site_answer(void *at, uint64_t place, struct jumbetai_reply *reply);
+/* what: 1 to 7 a question; 8 the summary; 9 what a peer lacks, whose summary the bytes are; 10 a
+ * page; 11 what is wrong with bytes; 12 that views be kept, by sixteen random bytes; 13 a page of
+ * arrivals; 14 that the text be let go. */
 void jumbetai_site_tell(void *at, uint32_t what, const unsigned char *bytes, size_t length,
                         uint64_t from, struct jumbetai_reply *reply);
 /* A part of what a peer lacks: at most so many events, 0 for a page, and up to the page with which
@@ -94,44 +108,6 @@ uint32_t jumbetai_source_part(const unsigned char *source, size_t length, uint64
 
 /* What taking bytes would come to, without a site; `listed` is how many events they spell. */
 void jumbetai_bytes_test(const unsigned char *bytes, size_t length, struct jumbetai_reply *reply);
-
-/* Two open files of a database, for reading and writing, by their descriptors: its log, and the
- * database file. Both are locked and nobody else's, hold what the disk holds, and are the library's
- * from jumbetai_file_open on, which closes them in the end. key and seed: drawn at random.
- * cache_mib: how many MiB of the database are kept in memory, 0 for what the library finds fit. */
-struct jumbetai_files {
-    int32_t log, db;
-    uint64_t key, seed, cache_mib;
-};
-
-/* A site over files, in room of jumbetai_file_size() bytes. Where opening it is refused a site that
- * isn't open lies there, which is closed too. */
-size_t jumbetai_file_size(void);
-void jumbetai_file_open(void *at, struct jumbetai_files *files, struct jumbetai_reply *reply);
-void jumbetai_file_take(void *at, const unsigned char *bytes, size_t length,
-                        struct jumbetai_reply *reply);
-/* what: 1 to 7 a question; 8 the summary; 9 what a peer lacks, whose summary the bytes are; 10 a
- * page; 11 what is wrong with bytes; 12 that views be kept, by sixteen random bytes; 13 a page of
- * arrivals; 14 that the text be let go. */
-void jumbetai_file_tell(void *at, uint32_t what, const unsigned char *bytes, size_t length,
-                        uint64_t from, struct jumbetai_reply *reply);
-void jumbetai_file_part(void *at, const unsigned char *summary, size_t length, uint64_t from,
-                        uint64_t most, uint64_t size, struct jumbetai_reply *reply);
-void jumbetai_file_get(void *at, const unsigned char *source, size_t source_length,
-                       const unsigned char *id, size_t id_length, struct jumbetai_reply *reply);
-void jumbetai_file_name(void *at, struct jumbetai_set_name *name);
-void jumbetai_file_compare(void *at, const unsigned char *summary, size_t length,
-                           struct jumbetai_set_lag *lag);
-void jumbetai_file_copy(void *at, void *to);
-/* Bodies of one transaction: each is offered, and refused (2, 3) or not; all are kept; it is asked
- * what became of the one at a place. At want of memory (1) all that were offered are let go, as by
- * any call but these three. */
-void jumbetai_file_offer(void *at, const unsigned char *bytes, size_t length,
-                         struct jumbetai_reply *reply);
-void jumbetai_file_keep(void *at, struct jumbetai_reply *reply);
-void jumbetai_file_answer(void *at, uint64_t place, struct jumbetai_reply *reply);
-void jumbetai_file_read(void *at, uint32_t piece, struct jumbetai_piece *out);
-void jumbetai_file_close(void *at);
 
 /* status: that of the call. number: that of the row that a command wrote, else 0. listed: how many
  * events the text has, where it is a page's, else 0. base: the number before that of the first row.

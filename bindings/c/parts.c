@@ -10,21 +10,12 @@ int jumbetai_part(const void *source, size_t length, uint64_t parts, uint64_t *p
     return (int)jumbetai_source_part(jumbetai_start_of(source), length, parts, part);
 }
 
-/* Where a text is made: the site, or another one beside a site over files. */
-static jumbetai_site *room_for(jumbetai_site *site) {
-    return site->is_file ? jumbetai_open() : site;
-}
-
-/* Copies the text of so many bytes that was made there, if any was, and lets go of what isn't
- * needed. */
-static int copy_text(jumbetai_site *site, jumbetai_site *room, int is_made, uint64_t length,
-                     uint64_t events, jumbetai_text *text) {
-    int status = is_made ? jumbetai_copy_text(room->room, jumbetai_site_read, length, events, text)
+/* Copies the text of so many bytes that was made in the room, if any was. */
+static int copy_text(jumbetai_site *site, int is_made, uint64_t length, uint64_t events,
+                     jumbetai_text *text) {
+    int status = is_made ? jumbetai_copy_text(site->room, jumbetai_site_read, length, events, text)
                          : JUMBETAI_DONE;
-    if (room != site)
-        jumbetai_close(room);
-    else if (length > JUMBETAI_LARGE)
-        jumbetai_release(site);
+    if (length > JUMBETAI_LARGE) jumbetai_release(site);
     return status;
 }
 
@@ -33,11 +24,9 @@ int jumbetai_split(jumbetai_site *site, const void *bytes, size_t length, uint64
     struct jumbetai_reply reply;
     if (text) *text = (jumbetai_text){0};
     if (!site || !text || !jumbetai_is_range(bytes, length)) return JUMBETAI_BAD_ARGUMENT;
-    jumbetai_site *room = room_for(site);
-    if (!room) return JUMBETAI_OUT_OF_MEMORY;
-    jumbetai_site_split(room->room, jumbetai_start_of(bytes), length, parts, &reply);
+    jumbetai_site_split(site->room, jumbetai_start_of(bytes), length, parts, &reply);
     int is_done = reply.status == JUMBETAI_DONE;
-    int copied = copy_text(site, room, is_done, reply.length, reply.listed, text);
+    int copied = copy_text(site, is_done, reply.length, reply.listed, text);
     return is_done ? copied : (int)reply.status;
 }
 
@@ -77,8 +66,8 @@ static int are_ranges(const jumbetai_body *bodies, size_t count) {
 /* The number by which the export is asked for the summary of the whole. */
 enum { SUMMARY = JUMBETAI_GAPS + 1 };
 
-/* Has the answer of the whole made in the room; memory may be refused here already. */
-static void combine(jumbetai_site *room, int question, const jumbetai_body *answers,
+/* Has the answer of the whole made in the site's room; memory may be refused here already. */
+static void combine(jumbetai_site *site, int question, const jumbetai_body *answers,
                     size_t answer_count, const jumbetai_body *covers, size_t cover_count,
                     struct jumbetai_combine_reply *reply) {
     size_t length = 0, count = answer_count + cover_count;
@@ -89,7 +78,7 @@ static void combine(jumbetai_site *room, int question, const jumbetai_body *answ
     if (texts.bytes && texts.lengths) {
         put(&texts, answers, answer_count);
         put(&texts, covers, cover_count);
-        jumbetai_site_combine(room->room, (uint32_t)question, answer_count, texts.bytes, length,
+        jumbetai_site_combine(site->room, (uint32_t)question, answer_count, texts.bytes, length,
                               texts.lengths, count, reply);
     }
     free(texts.bytes), free(texts.lengths);
@@ -104,12 +93,10 @@ static int answer_whole(jumbetai_site *site, int number, const jumbetai_body *an
     if (text) *text = (jumbetai_text){0};
     if (!site || !text || !are_ranges(answers, answer_count) || !are_ranges(covers, cover_count))
         return JUMBETAI_BAD_ARGUMENT;
-    jumbetai_site *room = room_for(site);
-    if (!room) return JUMBETAI_OUT_OF_MEMORY;
-    combine(room, number, answers, answer_count, covers, cover_count, &reply);
+    combine(site, number, answers, answer_count, covers, cover_count, &reply);
     if (parts) *parts = (jumbetai_parts){reply.first, reply.second};
     int is_done = reply.status == JUMBETAI_DONE, is_overlap = reply.status == JUMBETAI_OVERLAP;
-    int copied = copy_text(site, room, is_done || is_overlap, reply.length, 0, text);
+    int copied = copy_text(site, is_done || is_overlap, reply.length, 0, text);
     return is_done ? copied : (int)reply.status;
 }
 

@@ -13,8 +13,7 @@ enum { SUMMARY = 8, DELTA, PAGE, CHECK, KEEP_VIEWS, ARRIVALS, RELEASE };
 /* Asks a site. */
 static void tell(jumbetai_site *site, uint32_t what, const void *bytes, size_t length,
                  uint64_t from, struct jumbetai_reply *reply) {
-    (site->is_file ? jumbetai_file_tell : jumbetai_site_tell)(
-        site->room, what, jumbetai_start_of(bytes), length, from, reply);
+    jumbetai_site_tell(site->room, what, jumbetai_start_of(bytes), length, from, reply);
 }
 
 void jumbetai_write(void *room, void (*read)(void *, uint32_t, struct jumbetai_piece *),
@@ -41,22 +40,21 @@ int jumbetai_copy_text(void *room, void (*read)(void *, uint32_t, struct jumbeta
 static int copy_text(jumbetai_site *site, const struct jumbetai_reply *reply, jumbetai_text *text) {
     if (reply->status != JUMBETAI_DONE) return (int)reply->status;
     int status =
-        jumbetai_copy_text(site->room, site->is_file ? jumbetai_file_read : jumbetai_site_read,
-                           reply->length, reply->listed, text);
+        jumbetai_copy_text(site->room, jumbetai_site_read, reply->length, reply->listed, text);
     /* The site keeps its last text, but for a large one. */
     if (reply->length > JUMBETAI_LARGE) jumbetai_release(site);
     return status;
 }
 
-/* Room for a site in memory, in which none lies. */
-static jumbetai_site *room_of_one(void) {
+/* Room for a site, in which none lies. */
+static jumbetai_site *room_of_one(int is_file) {
     jumbetai_site *site = malloc(sizeof *site + jumbetai_site_size());
-    if (site) site->events = 0, site->is_file = 0;
+    if (site) site->events = 0, site->is_file = is_file;
     return site;
 }
 
 jumbetai_site *jumbetai_open(void) {
-    jumbetai_site *site = room_of_one();
+    jumbetai_site *site = room_of_one(0);
     if (site) jumbetai_site_open(site->room);
     return site;
 }
@@ -66,15 +64,15 @@ int jumbetai_open_file(const char *path, uint32_t cache_mib, jumbetai_site **sit
     struct jumbetai_reply reply;
     if (site) *site = NULL;
     if (!site || !path) return JUMBETAI_BAD_ARGUMENT;
-    jumbetai_site *made = malloc(sizeof *made + jumbetai_file_size());
+    jumbetai_site *made = room_of_one(1);
     if (!made) return JUMBETAI_OUT_OF_MEMORY;
     jumbetai_begin();
     int status = jumbetai_open_files(path, &files, made->locks);
     if (!status) {
-        jumbetai_file_open(made->room, &files, &reply);
+        jumbetai_site_open_files(made->room, &files, &reply);
         status = jumbetai_end((int)reply.status);
         if (status) {
-            jumbetai_file_close(made->room);
+            jumbetai_site_close(made->room);
             jumbetai_unlock(made->locks);
         }
     }
@@ -83,19 +81,14 @@ int jumbetai_open_file(const char *path, uint32_t cache_mib, jumbetai_site **sit
         return jumbetai_end(status);
     }
     made->events = reply.events;
-    made->is_file = 1;
     *site = made;
     return JUMBETAI_DONE;
 }
 
 void jumbetai_close(jumbetai_site *site) {
     if (!site) return;
-    if (site->is_file) {
-        jumbetai_file_close(site->room);
-        jumbetai_unlock(site->locks);
-    } else {
-        jumbetai_site_close(site->room);
-    }
+    jumbetai_site_close(site->room);
+    if (site->is_file) jumbetai_unlock(site->locks);
     free(site);
 }
 
@@ -106,10 +99,7 @@ int jumbetai_take(jumbetai_site *site, const void *bytes, size_t length, jumbeta
     if (counts) *counts = (jumbetai_counts){0, 0};
     if (!site || !jumbetai_is_range(bytes, length)) return JUMBETAI_BAD_ARGUMENT;
     jumbetai_begin();
-    if (site->is_file)
-        jumbetai_file_take(site->room, jumbetai_start_of(bytes), length, &reply);
-    else
-        jumbetai_site_take(site->room, jumbetai_start_of(bytes), length, &reply);
+    jumbetai_site_take(site->room, jumbetai_start_of(bytes), length, &reply);
     site->events = reply.events;
     if (counts) *counts = (jumbetai_counts){reply.fresh, reply.repeated};
     return jumbetai_end((int)reply.status);
@@ -130,7 +120,7 @@ static int take_together(jumbetai_site *site, const jumbetai_body *bodies, size_
     struct jumbetai_reply reply;
     jumbetai_release(site); /* nothing is offered */
     for (size_t i = 0; i < count; i++) {
-        jumbetai_file_offer(site->room, jumbetai_start_of(bodies[i].bytes), bodies[i].length,
+        jumbetai_site_offer(site->room, jumbetai_start_of(bodies[i].bytes), bodies[i].length,
                             &reply);
         answers[i].status = (int)reply.status;
         if (reply.status == JUMBETAI_OUT_OF_MEMORY) {
@@ -139,11 +129,11 @@ static int take_together(jumbetai_site *site, const jumbetai_body *bodies, size_
         }
     }
     jumbetai_begin();
-    jumbetai_file_keep(site->room, &reply);
+    jumbetai_site_keep(site->room, &reply);
     int status = jumbetai_end((int)reply.status);
     site->events = reply.events;
     for (size_t i = 0; i < count; i++) {
-        jumbetai_file_answer(site->room, i, &reply);
+        jumbetai_site_answer(site->room, i, &reply);
         answers[i] = (jumbetai_answer){(int)reply.status, {reply.fresh, reply.repeated}};
     }
     jumbetai_release(site);
@@ -215,9 +205,8 @@ int jumbetai_get(jumbetai_site *site, const void *source, size_t source_length, 
     if (!site || !text || !jumbetai_is_range(source, source_length) ||
         !jumbetai_is_range(id, id_length))
         return JUMBETAI_BAD_ARGUMENT;
-    (site->is_file ? jumbetai_file_get : jumbetai_site_get)(site->room, jumbetai_start_of(source),
-                                                            source_length, jumbetai_start_of(id),
-                                                            id_length, &reply);
+    jumbetai_site_get(site->room, jumbetai_start_of(source), source_length, jumbetai_start_of(id),
+                      id_length, &reply);
     return copy_text(site, &reply, text);
 }
 
@@ -259,8 +248,7 @@ int jumbetai_delta_part(jumbetai_site *site, const void *summary, size_t length,
     struct jumbetai_reply reply;
     if (text) *text = (jumbetai_text){0};
     if (!site || !text || !jumbetai_is_range(summary, length)) return JUMBETAI_BAD_ARGUMENT;
-    (site->is_file ? jumbetai_file_part : jumbetai_site_part)(
-        site->room, jumbetai_start_of(summary), length, from, events, bytes, &reply);
+    jumbetai_site_part(site->room, jumbetai_start_of(summary), length, from, events, bytes, &reply);
     return copy_text(site, &reply, text);
 }
 
@@ -272,7 +260,7 @@ int jumbetai_name(jumbetai_site *site, unsigned char name[32]) {
     struct jumbetai_set_name it = {0};
     if (name) memset(name, 0, sizeof it.bytes);
     if (!site || !name) return JUMBETAI_BAD_ARGUMENT;
-    (site->is_file ? jumbetai_file_name : jumbetai_site_name)(site->room, &it);
+    jumbetai_site_name(site->room, &it);
     memcpy(name, it.bytes, sizeof it.bytes);
     return (int)it.status;
 }
@@ -281,8 +269,7 @@ int jumbetai_compare(jumbetai_site *site, const void *summary, size_t length, ju
     struct jumbetai_set_lag it = {0};
     if (lag) *lag = (jumbetai_lag){0, 0, 0};
     if (!site || !lag || !jumbetai_is_range(summary, length)) return JUMBETAI_BAD_ARGUMENT;
-    (site->is_file ? jumbetai_file_compare
-                   : jumbetai_site_compare)(site->room, jumbetai_start_of(summary), length, &it);
+    jumbetai_site_compare(site->room, jumbetai_start_of(summary), length, &it);
     *lag = (jumbetai_lag){it.lacking, it.ahead, it.blocks};
     return (int)it.status;
 }
@@ -291,9 +278,9 @@ int jumbetai_copy(jumbetai_site *site, jumbetai_site **copy) {
     struct jumbetai_reply reply;
     if (copy) *copy = NULL;
     if (!site || !copy) return JUMBETAI_BAD_ARGUMENT;
-    jumbetai_site *made = room_of_one();
+    jumbetai_site *made = room_of_one(0);
     if (!made) return JUMBETAI_OUT_OF_MEMORY;
-    (site->is_file ? jumbetai_file_copy : jumbetai_site_copy)(site->room, made->room);
+    jumbetai_site_copy(site->room, made->room);
     /* It has all events, or none where memory ran out. */
     tell(made, RELEASE, NULL, 0, 0, &reply);
     made->events = reply.events;

@@ -115,6 +115,20 @@ class Sites(unittest.TestCase):
                 with self.assertRaises(TypeError):
                     again.take_each([1])
 
+    def test_bodies_over_a_file_are_answered_as_those_taken_one_by_one(self):
+        for seed in range(4):
+            chance = random.Random(seed)
+            with tempfile.TemporaryDirectory() as folder, Site(os.path.join(folder, "it.db")) as site, Site() as alone:
+                for _ in range(3):
+                    some = [
+                        event(chance.randrange(1, 60), type=chance.choice("ab")) for _ in range(chance.randrange(80))
+                    ]
+                    bodies = [chance.choice([json.dumps(it)] * 8 + [batch([it, event(1)]), "{}"]) for it in some]
+                    wanted = [it if isinstance(it, Taken) else it.status for it in alone.take_each(bodies)]
+                    told = [it if isinstance(it, Taken) else it.status for it in site.take_each(bodies)]
+                    self.assertEqual(told, wanted, seed)
+                self.assertEqual([it.json for it in site.arrivals()], [it.json for it in alone.arrivals()], seed)
+
     def test_arrivals_and_copies(self):
         with tempfile.TemporaryDirectory() as folder:
             path = os.path.join(folder, "service.db")

@@ -1,9 +1,8 @@
 -- What one INSERT does.
-use Rattle.std.proofs.Common.{◌≡◌, ◌⊎◌, inl, inr, ℕ, suc, ◌+◌, pos, ℤ, length, List, [], ◌∷◌, ◌++◌, Bool, true, false, if◌then◌else◌, unwrap_or, nat_lt, not, ◌&&◌, Option, Some, None, map, drop, take, zero, ◌-◌, ◌≤◌, ◌<◌, slice_get, add-one, ◌/◌, append_assoc, append-nil, Ok, Err, Result, IfOk, IsTrue, OnErr, OnOk, refl, sym, ap, subst, ◌∙◌, arith, length-append, IsPermutation}
+use Rattle.std.proofs.Common.{◌≡◌, ◌⊎◌, inl, inr, ℕ, suc, ◌+◌, pos, ℤ, length, List, [], ◌∷◌, ◌++◌, Bool, true, false, if◌then◌else◌, unwrap_or, nat_lt, not, ◌&&◌, Option, Some, None, map, drop, take, zero, ◌-◌, ◌≤◌, ◌<◌, slice_get, add-one, ◌/◌, append_assoc, append-nil, Ok, Err, Result, IfOk, IsTrue, OnErr, refl, sym, ap, subst, ◌∙◌, arith, length-append, IsPermutation}
 use Rattle.std.proofs.lemmas.Bool.{cases_Bool}
 use Rattle.std.proofs.lemmas.List.{take-append-drop}
 use Rattle.std.proofs.lemmas.List.Sorted.{IsPermutation-trans, IsPermutation-sym}
-use Rattle.sqlite_value.specs.declared.value.Value.TheVariants.{Int, Text as Words}
 use Rattle.sqlite_value.specs.Order.{Row}
 use Rattle.sqlite_trees.specs.Tree.{Trees, put_row}
 use Rattle.sqlite_sql.specs.Ops.{unary}
@@ -31,13 +30,13 @@ use Rattle.sqlite.specs.State.{State, mode_of, store_error, IsUnchanged, KeepsCo
 use Rattle.sqlite.specs.Listing.{understood}
 use Rattle.sqlite.proofs.InsideLemmas.{keeps_then}
 use Rattle.sqlite.proofs.Callers.{command_of, statement_of, runs_as, one_step}
-use Rattle.attributes.specs.Event.{EventValue, id_of, source_of, text}
+use Rattle.attributes.specs.Event.{EventValue}
 use Rattle.inbox.specs.KeyOrder.{key_cmp}
 use Rattle.inbox.specs.Ordered.{append_new, has}
 use Rattle.database_layout.specs.Tables.{inbox2}
-use Rattle.inbox_table.specs.Rows.{AreNumbered, IsEachOnce, IsNumbered, block_of_event, number_in, row_of, rows_from}
+use Rattle.inbox_table.specs.Rows.{AreNumbered, IsNumbered, row_of, rows_from}
 use Rattle.inbox_table.specs.declared.version.Version.TheVariants.{Two}
-use Rattle.inbox_table.specs.steps.Turns.{Home, IsFilled, IsHome, KeepsOthers, Puts as PutsEvent, PutsGroup, PutsNew, RunsGroup, IsKeeping, params_from, params_of, schema_at, tree_at}
+use Rattle.inbox_table.specs.steps.Turns.{Home, IsFilled, IsHome, KeepsOthers, Puts as PutsEvent, PutsGroup, RunsGroup, IsKeeping, params_from, params_of, schema_at, tree_at}
 use Rattle.inbox_table.proofs.HomeLemmas.{listed, one_index, others_same, works_none}
 use Rattle.inbox_table.proofs.TextLemmas.{clauses, group_terms, index_of, insert_group_is, insert_group_text, insert_new_is, insert_new_text, insert_text, insert_is, terms}
 use Rattle.inbox_table.proofs.EventLemmas.{append_twice, numbered_more, once_more}

@@ -1,18 +1,17 @@
 -- The turns of a transaction that takes lists of events.
 use Rattle.std.proofs.Common.{◌≡◌, ◌≤◌, ℕ, zero, suc, ◌+◌, ◌++◌, ◌^◌, ◌<◌, if◌then◌else◌, length, length-append, append_assoc, slice_get, drop, take, IfOk, map, sum, min, ◌-◌, add-one, List, [], ◌∷◌, Some, Ok, Err, Result, IsTrue, refl, sym, ap, subst, ◌∙◌, arith}
 use Rattle.std.proofs.lemmas.List.Sums.{sum_by-append, sum_by-cons}
-use Rattle.sqlite_trees.specs.Tree.{Trees}
 use Rattle.sqlite.specs.Effect.{Database, IsDatabase}
-use Rattle.sqlite.specs.State.{State, HasCleanDisk, IsUnchanged, KeepsCommit}
+use Rattle.sqlite.specs.State.{State, IsUnchanged, KeepsCommit}
 use Rattle.attributes.specs.Event.{EventValue}
 use Rattle.inbox.specs.KeyOrder.{key_cmp}
 use Rattle.inbox.specs.Ordered.{append_new, has}
 use Rattle.inbox.proofs.SetLemmas.{length-append_new}
-use Rattle.inbox_table.specs.Calls.{AreFreshEach, IsSettled, KeepEachEffect, KeepEffect, Stands, Takes, joined}
+use Rattle.inbox_table.specs.Calls.{AreFreshEach, KeepEachEffect, KeepEffect, Stands, Takes, joined}
 use Rattle.inbox_table.specs.Rows.{IsInbox}
 use Rattle.inbox_table.specs.declared.fault.TableFault.{TableFault}
 use Rattle.inbox_table.specs.declared.version.Version.TheVariants.{Two}
-use Rattle.inbox_table.specs.steps.Turns.{AreSingle, At, IsFilled, IsKeeping, IsKeepingEach, IsTaking, IsTakingEach, KeepsOthers, schema_at, tree_at}
+use Rattle.inbox_table.specs.steps.Turns.{AreSingle, At, IsFilled, IsKeeping, IsKeepingEach, KeepsOthers, schema_at, tree_at}
 use Rattle.inbox_table.proofs.HomeLemmas.{others_same, others_then}
 use Rattle.inbox_table.proofs.InsertLemmas.{behind, get_taken, length_part, take_next}
 use Rattle.inbox_table.proofs.KeepLemmas.{filled_in}

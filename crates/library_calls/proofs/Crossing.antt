@@ -20,6 +20,7 @@ use Rattle.number_table.specs.contracts.numberer.Numberer as numberer
 use Rattle.numbers.specs.contracts.counted.Counted as counted
 use Rattle.outbox.specs.contracts.service.Service as service
 use Rattle.site.specs.contracts.site.Site as site
+use Rattle.library_calls.specs.contracts.held.HeldSite as held_site
 use Rattle.library_calls.specs.contracts.offers.Head as head
 use Rattle.library_calls.specs.contracts.offers.Offers as offers
 use Rattle.sqlite.specs.contracts.cache.Entry as entry
@@ -323,3 +324,10 @@ module _ (c : calls_of_file.Ghosts (system_file.the_row).Denot) (b : start.Ghost
 
       pub file_numberer_send : IsSend (numberer.the_row files h)
       file_numberer_send = search (numberer_send files h, files_send, sendable) depth 20
+
+      file_site_field_send : IsSend (durable.the_field files h).row
+      file_site_field_send = search (durable_send files h, files_send, sendable) depth 20
+
+-- ---- a site in a caller's room
+pub held_site_send : IsSend (held_site.the_field).row
+held_site_send = search (site_send, file_site_field_send, both, sendable) depth 60 fits 20000

@@ -1,7 +1,6 @@
--- What a call leaves in the room that a site lies in, and what it replies.
+-- What a call leaves of a site in memory, and what it replies.
 use Rattle.std.specs.Prelude.{◌≡◌, ◌≢◌, ◌+◌, ◌*◌, ◌<◌, ◌⊎◌, ℕ, List, [], ◌∷◌, ◌++◌, codes, drop, length, take}
 use Rattle.attributes.specs.Event.{EventValue}
-use Rattle.event_json.specs.BatchText.{batch_text}
 use Rattle.coverage.specs.Digests.{Digests}
 use Rattle.coverage.specs.Refusals.{RefusesSummary}
 use Rattle.coverage.specs.Summary.{IsSummary, Sources}
@@ -23,15 +22,9 @@ use Rattle.views.specs.declared.query.Query.{Query}
 use Rattle.views.specs.declared.query.Query.TheVariants as query
 use Rattle.library_calls.specs.declared.calls.Piece.{Piece}
 use Rattle.library_calls.specs.declared.calls.Reply.{Reply}
-use Rattle.library_calls.specs.declared.held.Held.{Held}
+use Rattle.library_calls.specs.Shown.{Shown}
 pub use Rattle.event_json.specs.BatchText.{batch_line}
 pub use Rattle.coverage.specs.SummaryText.{WithoutLineEnd}
-
--- ---- a site opened
-
--- libjumbetai's site without events, and the empty text
-abbrev pub IsEmpty : Held → Type 0
-IsEmpty held = (held.site ≡ []) × (held.text ≡ [])
 
 -- ---- events taken
 
@@ -61,15 +54,6 @@ TookBytes bytes A B reply =
     ((batch : List EventValue) × SpellAll (bytes ∷ []) batch × TookBatch batch A B reply)
     ⊎ ((refused : Refused) × IsRefusal (bytes ∷ []) refused × TookNone refused A B reply)
 
--- the reply tells how many events the site has, and how many bytes the text
-abbrev pub TellsRoom : Held → Reply → Type 0
-TellsRoom kept reply = (reply.events ≡ length kept.site) × (reply.length ≡ length kept.text)
-
--- what `jumbetai_site_take` leaves and replies; the answer's text stays
-abbrev pub Took : List ℕ → Held → Held → Reply → Type 0
-Took bytes held kept reply = TookBytes bytes held.site kept.site reply
-    × (kept.text ≡ held.text) × (reply.listed ≡ 0) × TellsRoom kept reply
-
 -- ---- texts answered
 
 -- libjumbetai's text is the one that was made, which has so many events as a page
@@ -86,17 +70,21 @@ TellsText events text reply = (reply.fresh ≡ 0) × (reply.repeated ≡ 0)
     × (reply.events ≡ length events) × (reply.length ≡ length text)
 
 -- the events of libjumbetai's site stay, and none is said to have been taken
-abbrev pub TakesNone : Held → Held → Reply → Type 0
+abbrev pub TakesNone : Shown → Shown → Reply → Type 0
 TakesNone held kept reply = (kept.site ≡ held.site) × (reply.fresh ≡ 0) × (reply.repeated ≡ 0)
 
+-- the reply tells how many events the site has, and how many bytes the text
+abbrev pub TellsRoom : Shown → Reply → Type 0
+TellsRoom kept reply = (reply.events ≡ length kept.site) × (reply.length ≡ length kept.text)
+
 -- libjumbetai's text is kept, which has so many events as a page
-abbrev pub KeepsReplyText : List ℕ → ℕ → Held → Held → Reply → Type 0
+abbrev pub KeepsReplyText : List ℕ → ℕ → Shown → Shown → Reply → Type 0
 KeepsReplyText text listed held kept reply = (reply.status ≡ 0) × (kept.text ≡ text)
     × (reply.listed ≡ listed) × TakesNone held kept reply × TellsRoom kept reply
 
 -- libjumbetai's call answers with a text that has so many events as a page, or tells by its status
 -- why there is none; then the text of before stays. The events stay
-abbrev pub AnswersCall : (List ℕ → ℕ → Type 0) → (ℕ → Type 0) → Held → Held → Reply → Type 0
+abbrev pub AnswersCall : (List ℕ → ℕ → Type 0) → (ℕ → Type 0) → Shown → Shown → Reply → Type 0
 AnswersCall made refused held kept reply =
     (((reply.status ≡ 0) × made kept.text reply.listed)
     ⊎ (refused reply.status × (kept.text ≡ held.text) × (reply.listed ≡ 0)))
@@ -137,8 +125,8 @@ abbrev pub IsUnanswered : ℕ → List EventValue → ℕ → Type 0
 IsUnanswered number E status =
     (IsWant status × WantsMemoryAt number E) ⊎ ((status ≡ 4) × IsNoQuestion number)
 
--- what `jumbetai_site_ask` leaves and replies
-abbrev pub Asked : ℕ → Held → Held → Reply → Type 0
+-- what a question of this number leaves and replies
+abbrev pub Asked : ℕ → Shown → Shown → Reply → Type 0
 Asked number held kept reply = AnswersCall (AnswersAt number (set_of held.site))
     (IsUnanswered number (set_of held.site)) held kept reply
 
@@ -148,8 +136,8 @@ Asked number held kept reply = AnswersCall (AnswersAt number (set_of held.site))
 abbrev pub IsSummaryLine : List EventValue → List ℕ → Type 0
 IsSummaryLine E text = (s : Sources) × Digests E s × (text ≡ summary_text s ++ 10 ∷ [])
 
--- what `jumbetai_site_summary` leaves and replies
-abbrev pub Summed : Held → Held → Reply → Type 0
+-- what a question for the summary leaves and replies
+abbrev pub Summed : Shown → Shown → Reply → Type 0
 Summed held kept reply = AnswersCall
     (λ text listed. IsSummaryLine (set_of held.site) text × (listed ≡ 0)) IsWant held kept reply
 
@@ -182,22 +170,22 @@ abbrev pub LacksPageAt : List ℕ → ℕ → List EventValue → List ℕ → �
 LacksPageAt bytes from E text listed =
     (s : Sources) × IsPeer bytes s × IsPageLine (page (delta E s) from 100) text listed
 
--- what `jumbetai_site_delta` leaves and replies
-abbrev pub Lacked : List ℕ → ℕ → Held → Held → Reply → Type 0
+-- what a question for a page of what a peer lacks leaves and replies
+abbrev pub Lacked : List ℕ → ℕ → Shown → Shown → Reply → Type 0
 Lacked bytes from held kept reply = AnswersCall (LacksPageAt bytes from (set_of held.site))
     (IsRefusedPeer bytes) held kept reply
 
--- what `jumbetai_site_page` leaves and replies: the page from this place of key order on, at most
+-- what a question for a page leaves and replies: the page from this place of key order on, at most
 -- 100 events
-abbrev pub Paged : ℕ → Held → Held → Reply → Type 0
+abbrev pub Paged : ℕ → Shown → Shown → Reply → Type 0
 Paged from held kept reply = AnswersCall (IsPageLine (page (set_of held.site) from 100))
     IsWant held kept reply
 
 -- ---- what is wrong with bytes
 
--- what `jumbetai_site_check` leaves and replies: the lines that tell of a file `-` what is wrong
+-- what a check of bytes leaves and replies: the lines that tell of a file `-` what is wrong
 -- with it
-abbrev pub Checked : List ℕ → Held → Held → Reply → Type 0
+abbrev pub Checked : List ℕ → Shown → Shown → Reply → Type 0
 Checked bytes held kept reply = AnswersCall
     (λ text listed. IsFaultText (codes "-") bytes text × (listed ≡ 0)) IsWant held kept reply
 
@@ -207,8 +195,8 @@ Checked bytes held kept reply = AnswersCall
 abbrev pub IsDoneOrWant : ℕ → Type 0
 IsDoneOrWant status = (status ≡ 0) ⊎ IsWant status
 
--- what `jumbetai_site_keep_views` leaves and replies: the events and the text stay
-abbrev pub Viewed : Held → Held → Reply → Type 0
+-- what a call that has views kept leaves and replies: the events and the text stay
+abbrev pub Viewed : Shown → Shown → Reply → Type 0
 Viewed held kept reply = IsDoneOrWant reply.status × (kept.text ≡ held.text)
     × (reply.listed ≡ 0) × TakesNone held kept reply × TellsRoom kept reply
 
@@ -218,10 +206,9 @@ Viewed held kept reply = IsDoneOrWant reply.status × (kept.text ≡ held.text)
 abbrev pub piece_of : ℕ → List ℕ → List ℕ
 piece_of number text = take 4096 (drop (number * 4096) text)
 
--- what `jumbetai_site_read` leaves and copies: the piece, and how many bytes it has; the room behind
--- it stays
-abbrev pub HasReadPiece : ℕ → Held → Held → Piece → Piece → Type 0
-HasReadPiece number held kept was piece = (kept ≡ held)
-    × (piece.length ≡ length (piece_of number held.text))
-    × (take piece.length piece.bytes ≡ piece_of number held.text)
+-- the piece with this number of libjumbetai's text is copied, and how many bytes it has is told; the
+-- room behind it stays
+abbrev pub IsPieceRead : ℕ → List ℕ → Piece → Piece → Type 0
+IsPieceRead number text was piece = (piece.length ≡ length (piece_of number text))
+    × (take piece.length piece.bytes ≡ piece_of number text)
     × (drop piece.length piece.bytes ≡ drop piece.length was.bytes)

@@ -1,9 +1,10 @@
 pub mod Calls
-pub mod Law
-pub mod Sets
 pub mod Files
-pub mod FileSets
+pub mod Law
+pub mod Numbers
 pub mod Offers
 pub mod Outboxes
-pub mod Numbers
 pub mod Parts
+pub mod Rooms
+pub mod Sets
+pub mod Shown

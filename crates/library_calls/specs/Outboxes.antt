@@ -1,12 +1,12 @@
 -- What a call leaves in the room that an outbox over a file lies in, and what it replies.
-use Rattle.std.specs.Prelude.{◌≡◌, ◌≢◌, ◌==◌, ◌≤◌, ◌⊎◌, IsUtf8, ℕ, List, [], ◌∷◌, ◌++◌, codes, drop, length, take, if◌then◌else◌, IsTrue, Err, MatchOption, MatchResult, ⊤, None, Ok, Option, Result, Some}
+use Rattle.std.specs.Prelude.{◌≡◌, ◌≢◌, ◌==◌, ◌≤◌, ◌⊎◌, IsUtf8, ℕ, List, [], codes, drop, length, take, if◌then◌else◌, IsTrue, Err, MatchOption, MatchResult, ⊤, None, Ok, Option, Result, Some}
 use Rattle.sqlite_disk.specs.declared.Disk as disk
 use Rattle.sqlite_store.specs.declared.store.FileStore.{FileStore}
 use Rattle.sqlite.specs.Files.{file_state, over_files}
 use Rattle.sqlite.specs.Held.{Held, state}
 use Rattle.sqlite.specs.State.{HasCleanDisk, State}
 use Rattle.sqlite_trees.specs.declared.store.Store.{Ghosts}
-use Rattle.attributes.specs.Event.{EventValue, text as event_text}
+use Rattle.attributes.specs.Event.{EventValue}
 use Rattle.attributes.specs.Time.{time_day}
 use Rattle.outbox.specs.Call.{CommandCall, CommandEffect, IsServiceReading, IsSettled, LeavesAsBefore, ShowsAfter}
 use Rattle.outbox.specs.Opening.{IsOpeningRefused, OpensService}

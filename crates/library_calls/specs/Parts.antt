@@ -1,5 +1,5 @@
 -- What the calls on a region in parts leave in the room, and what they reply.
-use Rattle.std.specs.Prelude.{◌≡◌, ◌<◌, ◌≤◌, ◌≢◌, ◌+◌, ◌-◌, ◌⊎◌, ℕ, Bool, true, false, List, [], ◌∷◌, All, IsUtf8, Some, drop, if◌then◌else◌, length, nat_lt, slice_get, string_bytes, sum, take}
+use Rattle.std.specs.Prelude.{◌≡◌, ◌<◌, ◌≤◌, ◌≢◌, ◌+◌, ◌-◌, ◌⊎◌, ℕ, List, [], ◌∷◌, All, IsUtf8, Some, drop, if◌then◌else◌, length, nat_lt, slice_get, string_bytes, sum, take}
 use Rattle.attributes.specs.Event.{EventValue}
 use Rattle.event_files.specs.Numbers.{fault_number}
 use Rattle.event_files.specs.Files.{IsRefusal, SpellAll}
@@ -12,9 +12,9 @@ use Rattle.parts.specs.declared.fault.CombineFault.{CombineFault}
 use Rattle.parts.specs.declared.fault.CombineFault.TheVariants as fault
 use Rattle.views.specs.Question.{IsAnswer}
 use Rattle.views.specs.declared.query.Query.{Query}
-use Rattle.views.specs.declared.query.Query.TheVariants as query
 use Rattle.library_calls.specs.Calls.{AnswersCall, IsDoneOrWant, IsNoQuestion, IsWant, batch_line, question_number}
 use Rattle.library_calls.specs.declared.calls.Reply.{Reply}
+use Rattle.library_calls.specs.Shown.{Shown}
 use Rattle.library_calls.specs.declared.held.Held.{Held}
 use Rattle.library_calls.specs.declared.part_calls.CombineReply.{CombineReply}
 pub use Rattle.parts.specs.Whole.{has_covers, no_answer}
@@ -48,8 +48,8 @@ IsUnsplit bytes count status = ((status ≡ 32) × IsNoCount count)
     ⊎ (IsCountOfParts count × (IsWant status ⊎ ((refused : Refused) × IsRefusal (bytes ∷ []) refused
     × (status ≡ fault_number refused.fault))))
 
--- what `jumbetai_site_split` leaves and replies
-abbrev pub Split : List ℕ → ℕ → Held → Held → Reply → Type 0
+-- what a question for the parts of the bytes' events leaves and replies
+abbrev pub Split : List ℕ → ℕ → Shown → Shown → Reply → Type 0
 Split bytes count held kept reply =
     AnswersCall (IsSplit bytes count) (IsUnsplit bytes count) held kept reply
 

@@ -18,14 +18,14 @@ use Rattle.site.specs.Page.{page}
 use Rattle.views.specs.Line.{event_lines}
 use Rattle.library_calls.specs.Calls.{AnswersCall, IsPageLine, IsPeer, IsRefusedPeer, IsWant, KeepsReplyText}
 use Rattle.library_calls.specs.declared.calls.Reply.{Reply}
-use Rattle.library_calls.specs.declared.held.Held.{Held}
+use Rattle.library_calls.specs.Shown.{Shown}
 use Rattle.library_calls.specs.declared.set_calls.Lag.{Lag}
 use Rattle.library_calls.specs.declared.set_calls.Name.{Name}
 
 -- ---- arrivals
 
 -- the events of libjumbetai's site that came as the (after+1)st and on, at most 100, as a page
-abbrev pub Arrived : ℕ → Held → Held → Reply → Type 0
+abbrev pub Arrived : ℕ → Shown → Shown → Reply → Type 0
 Arrived after held kept reply =
     AnswersCall (IsPageLine (page held.site after 100)) IsWant held kept reply
 
@@ -50,24 +50,16 @@ IsFound source id E text listed = (events : List EventValue) × IsNamed source i
 abbrev pub WantsFound : List ℕ → List ℕ → List EventValue → ℕ → Type 0
 WantsFound source id E status = IsWant status × (with_key source id E ≢ [])
 
--- what `jumbetai_site_get` leaves and replies
-abbrev pub Found : List ℕ → List ℕ → Held → Held → Reply → Type 0
+-- what a question for the events of a source and an id leaves and replies
+abbrev pub Found : List ℕ → List ℕ → Shown → Shown → Reply → Type 0
 Found source id held kept reply = AnswersCall (IsFound source id (set_of held.site))
     (WantsFound source id (set_of held.site)) held kept reply
 
 -- ---- a text let go
 
 -- the text of libjumbetai's site is empty
-abbrev pub Released : Held → Held → Reply → Type 0
+abbrev pub Released : Shown → Shown → Reply → Type 0
 Released held kept reply = KeepsReplyText [] 0 held kept reply
-
--- ---- copies
-
--- what `jumbetai_site_copy` leaves: the site as it was, and another one with the same events, come in
--- the same order, and no text; or, where there are events, memory ran out, and that one has none
-abbrev pub Copied : Held → Held → Held → Type 0
-Copied held kept copy = (kept ≡ held) × (copy.text ≡ [])
-    × ((copy.site ≡ held.site) ⊎ ((copy.site ≡ []) × (held.site ≢ [])))
 
 -- ---- the name of a set
 
@@ -79,11 +71,6 @@ IsNameOf E bytes = (s : Sources) × Digests E s × (bytes ≡ sha256 (summary_te
 abbrev pub TellsName : List EventValue → Name → Name → Type 0
 TellsName E was name = ((name.status ≡ 0) × IsNameOf E name.bytes)
     ⊎ (IsWant name.status × (name.bytes ≡ was.bytes))
-
--- libjumbetai tells the name of the site's set; site and text stay
-abbrev pub Named : Held → Held → Name → Name → Type 0
-Named held kept was name = (kept.site ≡ held.site) × (kept.text ≡ held.text)
-    × TellsName (set_of held.site) was name
 
 -- ---- how far a peer is apart
 
@@ -106,11 +93,6 @@ IsLag bytes E lag = (peer : Sources) × IsPeer bytes peer
 abbrev pub TellsLag : List ℕ → List EventValue → Lag → Type 0
 TellsLag bytes E lag = IsLag bytes E lag
     ⊎ (IsRefusedPeer bytes lag.status × (lag.lacking ≡ 0) × (lag.ahead ≡ 0) × (lag.blocks ≡ 0))
-
--- libjumbetai tells how far the site's set and the peer are apart; site and text stay
-abbrev pub Compared : List ℕ → Held → Held → Lag → Type 0
-Compared bytes held kept lag = (kept.site ≡ held.site) × (kept.text ≡ held.text)
-    × TellsLag bytes (set_of held.site) lag
 
 -- ---- parts of what a peer lacks
 
@@ -149,8 +131,8 @@ abbrev pub LacksPart : List ℕ → ℕ → ℕ → ℕ → List EventValue → 
 LacksPart bytes from most size E text listed =
     (s : Sources) × IsPeer bytes s × IsPartLine (delta E s) from most size text listed
 
--- what `jumbetai_site_part` leaves and replies
-abbrev pub PartLacked : List ℕ → ℕ → ℕ → ℕ → Held → Held → Reply → Type 0
+-- what a question for such a part leaves and replies
+abbrev pub PartLacked : List ℕ → ℕ → ℕ → ℕ → Shown → Shown → Reply → Type 0
 PartLacked bytes from most size held kept reply =
     AnswersCall (LacksPart bytes from most size (set_of held.site)) (IsRefusedPeer bytes)
     held kept reply

@@ -4,9 +4,8 @@ ghost use Rattle.std.specs.Prelude.{◌≡◌, ◌≢◌, [], ◌∷◌, codes, 
 ghost use Rattle.fault_lines.specs.Lines.{IsFaultText};
 ghost use Rattle.event_files.specs.Files.{IsRefusal, SpellAll};
 ghost use Rattle.inbox.specs.Sets.{set_of};
-ghost use Rattle.library_calls.specs.Calls.{AnswersAt, Asked, Checked, HasReadPiece, IsDoneOrWant, IsReplyKept, IsLeft, IsPageLine, IsPeer, IsRefusedPeer, IsSummaryLine, IsUnanswered, Lacked, LacksPageAt, Paged, Summed, TellsText, Took, TookBatch, TookNone, Viewed, WithoutLineEnd, batch_line, piece_of, question_number, summary_status};
+ghost use Rattle.library_calls.specs.Calls.{AnswersAt, Asked, Checked, IsDoneOrWant, IsReplyKept, IsLeft, IsPageLine, IsPeer, IsRefusedPeer, IsSummaryLine, IsUnanswered, Lacked, LacksPageAt, Paged, Summed, TellsText, TookBatch, TookBytes, TookNone, Viewed, WithoutLineEnd, batch_line, piece_of, question_number, summary_status};
 
-use crate::held::Held;
 use attributes::{Batch, Text};
 use coverage::{Summary, SummaryFault};
 use event_files::{EventReader, Refused, SequentialReader};
@@ -78,16 +77,24 @@ pub(crate) fn batch_of(alloc: Global, bytes: &[u8]) -> Result<Batch, Refused>
     }
 }
 
-/// Takes the events that the bytes spell into the site that lies in the room.
-pub fn site_take(mut held: Held, bytes: &[u8], reply: &mut Reply) -> Held
-    ensures { Took bytes.now held result reply.new }
+/// Takes the bytes' events into libjumbetai's site in memory; so many bytes the text has.
+pub(crate) fn take_bytes(
+    site: &mut Site,
+    alloc: Global,
+    bytes: &[u8],
+    length: u64,
+    reply: &mut Reply,
+)
+    ensures takes { TookBytes bytes.now site.old site.new reply.new }
+    ensures listed { reply.new.listed ≡ 0 }
+    ensures events { reply.new.events ≡ Rattle.std.specs.Prelude.length site.new }
+    ensures length { reply.new.length ≡ length }
 {
-    let read = batch_of(held.alloc, bytes);
-    settle(&mut held.site, read, reply);
+    let read = batch_of(alloc, bytes);
+    settle(site, read, reply);
     reply.listed = 0;
-    reply.events = held.site.arrived();
-    reply.length = held.text.as_str().len() as u64;
-    held
+    reply.events = site.arrived();
+    reply.length = length;
 }
 
 /// Takes the events that a call of libjumbetai read, or tells why none were.
@@ -166,21 +173,12 @@ fn answer_at(site: &Site, number: u32) -> Result<Answered, u32>
 }
 
 /// Keeps the text of the answer to a question in the room of libjumbetai's site.
-pub(crate) fn ask(site: &Site, alloc: Global, text: &mut Text, query: u32, reply: &mut Reply)
-    ensures { Asked query (record { site = site.now; text = text.old; alloc = alloc })
-        (record { site = site.now; text = text.new; alloc = alloc }) reply.new }
+pub(crate) fn ask(site: &Site, text: &mut Text, query: u32, reply: &mut Reply)
+    ensures { Asked query (record { site = site.now; text = text.old })
+        (record { site = site.now; text = text.new }) reply.new }
 {
     let made = answer_at(site, query);
     keep(site, text, made, reply);
-}
-
-/// Asks the site that lies in the room, as [`ask`] does.
-pub fn site_ask(mut held: Held, query: u32, reply: &mut Reply) -> Held
-    ensures { Asked query held result reply.new }
-{
-    let room = &mut held;
-    ask(&room.site, room.alloc, &mut room.text, query, reply);
-    held
 }
 
 /// The line of the summary that digests the events of libjumbetai's site.
@@ -206,20 +204,12 @@ fn summary_of(site: &mut Site) -> Result<Answered, u32>
 }
 
 /// Keeps the line of a site's summary as libjumbetai's text.
-pub(crate) fn sum_up(site: &mut Site, alloc: Global, text: &mut Text, reply: &mut Reply)
-    ensures { Summed (record { site = site.old; text = text.old; alloc = alloc })
-        (record { site = site.new; text = text.new; alloc = alloc }) reply.new }
+pub(crate) fn sum_up(site: &mut Site, text: &mut Text, reply: &mut Reply)
+    ensures { Summed (record { site = site.old; text = text.old })
+        (record { site = site.new; text = text.new }) reply.new }
 {
     let made = summary_of(site);
     keep(site, text, made, reply);
-}
-
-/// Sums up the site that lies in the room, as [`sum_up`] does.
-pub fn site_summary(mut held: Held, reply: &mut Reply) -> Held
-    ensures { Summed held result reply.new }
-{
-    sum_up(&mut held.site, held.alloc, &mut held.text, reply);
-    held
 }
 
 /// The bytes given to libjumbetai without one LF at their end, as a summary's line has.
@@ -303,45 +293,21 @@ pub(crate) fn show_lacked(
     from: u64,
     reply: &mut Reply,
 )
-    ensures { Lacked peer.now from (record { site = site.old; text = text.old; alloc = alloc })
-        (record { site = site.new; text = text.new; alloc = alloc }) reply.new }
+    ensures { Lacked peer.now from (record { site = site.old; text = text.old })
+        (record { site = site.new; text = text.new }) reply.new }
 {
     let made = delta_at(alloc, site, peer, from);
     keep(site, text, made, reply);
 }
 
-/// Shows what a peer lacks of the site that lies in the room, as [`show_lacked`] does.
-pub fn site_delta(mut held: Held, peer: &[u8], from: u64, reply: &mut Reply) -> Held
-    ensures { Lacked peer.now from held result reply.new }
-{
-    show_lacked(
-        &mut held.site,
-        held.alloc,
-        &mut held.text,
-        peer,
-        from,
-        reply,
-    );
-    held
-}
-
 /// Keeps as libjumbetai's text the page of a site's events in key order, from a place on.
 pub(crate) fn show_page(site: &Site, alloc: Global, text: &mut Text, from: u64, reply: &mut Reply)
-    ensures { Paged from (record { site = site.now; text = text.old; alloc = alloc })
-        (record { site = site.now; text = text.new; alloc = alloc }) reply.new }
+    ensures { Paged from (record { site = site.now; text = text.old })
+        (record { site = site.now; text = text.new }) reply.new }
 {
     let page = site.page(from, MAX_PAGE);
     let made = page_line(alloc, page);
     keep(site, text, made, reply);
-}
-
-/// Shows a page of the site that lies in the room, as [`show_page`] does.
-pub fn site_page(mut held: Held, from: u64, reply: &mut Reply) -> Held
-    ensures { Paged from held result reply.new }
-{
-    let room = &mut held;
-    show_page(&room.site, room.alloc, &mut room.text, from, reply);
-    held
 }
 
 /// What is wrong with bytes, a line for each event at fault, or the status of libjumbetai's call.
@@ -360,20 +326,11 @@ fn faults_in(alloc: Global, bytes: &[u8]) -> Result<Answered, u32>
 
 /// Keeps as libjumbetai's text what is wrong with bytes, a line for each event at fault.
 pub(crate) fn check(site: &Site, alloc: Global, text: &mut Text, bytes: &[u8], reply: &mut Reply)
-    ensures { Checked bytes.now (record { site = site.now; text = text.old; alloc = alloc })
-        (record { site = site.now; text = text.new; alloc = alloc }) reply.new }
+    ensures { Checked bytes.now (record { site = site.now; text = text.old })
+        (record { site = site.now; text = text.new }) reply.new }
 {
     let made = faults_in(alloc, bytes);
     keep(site, text, made, reply);
-}
-
-/// Checks bytes for the site that lies in the room, as [`check`] does.
-pub fn site_check(mut held: Held, bytes: &[u8], reply: &mut Reply) -> Held
-    ensures { Checked bytes.now held result reply.new }
-{
-    let room = &mut held;
-    check(&room.site, room.alloc, &mut room.text, bytes, reply);
-    held
 }
 
 /// The random bytes that a caller gives.
@@ -412,9 +369,9 @@ fn keep_views(site: &mut Site, seed: &[u8]) -> u32
 }
 
 /// Has libjumbetai's site keep views, by a seed; the text stays.
-pub(crate) fn view(site: &mut Site, alloc: Global, text: &Text, seed: &[u8], reply: &mut Reply)
-    ensures { Viewed (record { site = site.old; text = text.now; alloc = alloc })
-        (record { site = site.new; text = text.now; alloc = alloc }) reply.new }
+pub(crate) fn view(site: &mut Site, text: &Text, seed: &[u8], reply: &mut Reply)
+    ensures { Viewed (record { site = site.old; text = text.now })
+        (record { site = site.new; text = text.now }) reply.new }
 {
     reply.status = keep_views(site, seed);
     reply.fresh = 0;
@@ -422,22 +379,6 @@ pub(crate) fn view(site: &mut Site, alloc: Global, text: &Text, seed: &[u8], rep
     reply.listed = 0;
     reply.events = site.arrived();
     reply.length = text.as_str().len() as u64;
-}
-
-/// Has the site that lies in the room keep views, by a seed.
-pub fn site_keep_views(mut held: Held, seed: &[u8], reply: &mut Reply) -> Held
-    ensures { Viewed held result reply.new }
-{
-    view(&mut held.site, held.alloc, &held.text, seed, reply);
-    held
-}
-
-/// Copies a piece of libjumbetai's text, counted from 0; a piece behind its end has no bytes.
-pub fn site_read(held: Held, piece: u32, out: &mut Piece) -> Held
-    ensures { HasReadPiece piece held result out.old out.new }
-{
-    out.length = copied(held.text.as_str().as_bytes(), piece, &mut out.bytes);
-    held
 }
 
 /// Copies a piece of libjumbetai's text into the room's front, and answers how many bytes it has.
@@ -455,6 +396,3 @@ pub(crate) fn copied(text: &[u8], piece: u32, room: &mut [u8; PIECE]) -> u64
     room[..count].copy_from_slice(&rest[..count]);
     count as u64
 }
-
-/// Lets libjumbetai's site in the room go.
-pub fn site_close(held: Held) {}

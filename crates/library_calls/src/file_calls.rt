@@ -1,30 +1,20 @@
 //! What each call does to the site over a file that lies in the room.
 
-ghost use Rattle.std.specs.Prelude.{◌≡◌, ◌≢◌, ◌⊎◌, List, [], IfErr, IfOk, MatchOption, OnErr};
-ghost use Rattle.library_calls.specs.Files.{Answered, HasReadFile, IsStatusOfOwed, IsOpenedFile, KeepsBatch, KeepsBytes, KeepsNone, LetsGo, OpenedFile, RefusesFile, RepliesKept, Told, TookFile, open_status, table_status};
-ghost use Rattle.library_calls.specs.FileSets.{ComparedFile, CopiedFile, FoundFile, NamedFile, PartLackedFile};
-ghost use Rattle.library_calls.specs.Offers.{HasAnswer, IsOfferedBehind, KeepsOffers, KeptOffers, Offered, ReadsBody};
+ghost use Rattle.std.specs.Prelude.{◌≡◌, ◌≢◌, List, IfErr, IfOk, OnErr};
+ghost use Rattle.library_calls.specs.Files.{IsStatusOfOwed, IsOpenedFile, KeepsBatch, KeepsBytes, KeepsNone, RefusesFile, RepliesKept, open_status, table_status};
+ghost use Rattle.library_calls.specs.Offers.{IsOfferedBehind, KeepsOffers, ReadsBody};
 ghost use Rattle.library_calls.specs.declared.offers.Head.{Head};
 ghost use Rattle.attributes.specs.Event.{EventValue};
-ghost use Rattle.inbox.specs.Sets.{set_of};
-ghost use Rattle.library_calls.specs.Sets.{PartLacked, TellsLag, TellsName};
+ghost use Rattle.sqlite.specs.Held.{state};
 
-use crate::calls::{
-    DONE, OUT_OF_MEMORY, Piece, Reply, ask, batch_of, check, copied, show_lacked, show_page,
-    sum_up, view,
-};
-use crate::file_held::FileHeld;
-use crate::held::Held;
+use crate::calls::{DONE, OUT_OF_MEMORY, Reply, batch_of};
 use crate::offers::{Offers, body_of};
-use crate::set_calls::{
-    Lag, Name, compare, copy_of, find, no_lag, release, show_arrivals, show_part, tell_name,
-};
-use attributes::{Batch, List, Text};
+use attributes::{Batch, List};
 use durable_site::{
-    DurableSite, FileSite, GivenFiles, OpenFault, Owed, TableFault, Unknown, close, open_files,
+    DurableSite, FileSite, GivenFiles, OpenFault, Owed, TableFault, Unknown, open_files,
 };
 use event_files::Refused;
-use site::Site;
+use sqlite::Alter;
 use std::alloc::{AllocError, Global};
 
 /// The site wasn't opened.
@@ -78,7 +68,7 @@ pub(crate) fn tell_nothing(status: u32, length: u64, reply: &mut Reply)
 }
 
 /// A site over the files, whose events are all counted, or the status of libjumbetai's call.
-fn made(alloc: Global, given: GivenFiles) -> Result<FileSite<Unknown>, u32>
+pub(crate) fn made(alloc: Global, given: GivenFiles) -> Result<FileSite<Unknown>, u32>
     ensures ok { IfOk result IsOpenedFile }
     ensures err { IfErr result (λ status. status ≢ 0) }
     ensures refused { RefusesFile result }
@@ -92,34 +82,6 @@ fn made(alloc: Global, given: GivenFiles) -> Result<FileSite<Unknown>, u32>
             }
         }
         Err(fault) => Err(open_status(fault)),
-    }
-}
-
-/// Opens a site over the files that libjumbetai's caller gave.
-pub fn file_open(alloc: Global, given: GivenFiles, reply: &mut Reply) -> FileHeld
-    ensures { OpenedFile result reply.new }
-{
-    let text = Text::from_string(String::new(alloc));
-    match made(alloc, given) {
-        Ok(durable) => {
-            tell_nothing(DONE, 0, reply);
-            reply.events = durable.site.arrived();
-            FileHeld {
-                durable: Some(durable),
-                text,
-                offers: Offers::none(alloc),
-                alloc,
-            }
-        }
-        Err(status) => {
-            tell_nothing(status, 0, reply);
-            FileHeld {
-                durable: None,
-                text,
-                offers: Offers::none(alloc),
-                alloc,
-            }
-        }
     }
 }
 
@@ -157,8 +119,13 @@ fn reply_kept(
 }
 
 /// Takes the events of a batch into libjumbetai's site over files.
-fn keep_batch(durable: &mut FileSite<Unknown>, batch: Batch, length: u64, reply: &mut Reply)
-    ensures keeps { KeepsBatch batch durable.old durable.new reply.new }
+fn keep_batch<S: Alter + Drop>(
+    durable: &mut DurableSite<S>,
+    batch: Batch,
+    length: u64,
+    reply: &mut Reply,
+)
+    ensures keeps { KeepsBatch (state S.Store) batch durable.old durable.new reply.new }
     ensures length { reply.new.length ≡ length }
 {
     let count = batch.len();
@@ -168,13 +135,13 @@ fn keep_batch(durable: &mut FileSite<Unknown>, batch: Batch, length: u64, reply:
 }
 
 /// Takes the events that were read into libjumbetai's site over files, or tells why none were.
-fn settle_file(
-    durable: &mut FileSite<Unknown>,
+fn settle_file<S: Alter + Drop>(
+    durable: &mut DurableSite<S>,
     read: Result<Batch, Refused>,
     length: u64,
     reply: &mut Reply,
 )
-    ensures ok { IfOk read (λ batch. KeepsBatch batch durable.old durable.new reply.new) }
+    ensures ok { IfOk read (λ batch. KeepsBatch (state S.Store) batch durable.old durable.new reply.new) }
     ensures err { IfErr read (λ refused. KeepsNone refused durable.old durable.new reply.new) }
     ensures length { reply.new.length ≡ length }
 {
@@ -188,290 +155,23 @@ fn settle_file(
 }
 
 /// Takes the bytes' events into libjumbetai's site over files; so many bytes the text has.
-fn take_events(
-    durable: &mut FileSite<Unknown>,
+pub(crate) fn take_events<S: Alter + Drop>(
+    durable: &mut DurableSite<S>,
     alloc: Global,
     bytes: &[u8],
     length: u64,
     reply: &mut Reply,
 )
-    ensures takes { KeepsBytes bytes.now durable.old durable.new reply.new }
+    ensures takes { KeepsBytes (state S.Store) bytes.now durable.old durable.new reply.new }
     ensures length { reply.new.length ≡ length }
 {
     let read = batch_of(alloc, bytes);
     settle_file(durable, read, length, reply);
 }
 
-/// Takes the events that the bytes spell into the site over files that lies in the room.
-pub fn file_take(mut held: FileHeld, bytes: &[u8], reply: &mut Reply) -> FileHeld
-    ensures { TookFile bytes.now held result reply.new }
-{
-    held.offers.let_go(held.alloc);
-    let length = held.text.as_str().len() as u64;
-    let Some(durable) = &mut held.durable else {
-        tell_nothing(NOT_OPEN, length, reply);
-        return held;
-    };
-    take_events(durable, held.alloc, bytes, length, reply);
-    held
-}
-
-/// Answers libjumbetai's caller on a site, by a number: 1 to 7 a question, 8 its summary, 9 what a
-/// peer lacks, 10 a page, 11 what is wrong with bytes, 12 that it keep views, 13 a page of
-/// arrivals, 14 that it let the text of its last answer go.
-pub(crate) fn answer(
-    site: &mut Site,
-    alloc: Global,
-    text: &mut Text,
-    what: u32,
-    bytes: &[u8],
-    from: u64,
-    reply: &mut Reply,
-)
-    ensures { Answered what bytes.now from
-        (record { site = site.old; text = text.old; alloc = alloc })
-        (record { site = site.new; text = text.new; alloc = alloc }) reply.new }
-{
-    match what {
-        8 => sum_up(site, alloc, text, reply),
-        9 => show_lacked(site, alloc, text, bytes, from, reply),
-        10 => show_page(site, alloc, text, from, reply),
-        11 => check(site, alloc, text, bytes, reply),
-        12 => view(site, alloc, text, bytes, reply),
-        13 => show_arrivals(site, alloc, text, from, reply),
-        14 => release(site, alloc, text, reply),
-        _ => ask(site, alloc, text, what, reply),
-    }
-}
-
-/// Answers what is asked of the site that lies in the room, as [`answer`] does.
-pub fn site_tell(mut held: Held, what: u32, bytes: &[u8], from: u64, reply: &mut Reply) -> Held
-    ensures { Answered what bytes.now from held result reply.new }
-{
-    answer(
-        &mut held.site,
-        held.alloc,
-        &mut held.text,
-        what,
-        bytes,
-        from,
-        reply,
-    );
-    held
-}
-
-/// Answers what is asked of a site over files, as [`answer`] does; the table stays.
-fn tell(
-    durable: &mut FileSite<Unknown>,
-    alloc: Global,
-    text: &mut Text,
-    what: u32,
-    bytes: &[u8],
-    from: u64,
-    reply: &mut Reply,
-)
-    ensures table { durable.new.table ≡ durable.old.table }
-    ensures owed { durable.new.owed ≡ durable.old.owed }
-    ensures tells { Answered what bytes.now from
-        (record { site = durable.old.site; text = text.old; alloc = alloc })
-        (record { site = durable.new.site; text = text.new; alloc = alloc }) reply.new }
-{
-    answer(&mut durable.site, alloc, text, what, bytes, from, reply);
-}
-
-/// Answers what libjumbetai's caller asks of a site over files, by its number.
-pub fn file_tell(
-    mut held: FileHeld,
-    what: u32,
-    bytes: &[u8],
-    from: u64,
-    reply: &mut Reply,
-) -> FileHeld
-    ensures { Told what bytes.now from held result reply.new }
-{
-    held.offers.let_go(held.alloc);
-    let Some(durable) = &mut held.durable else {
-        tell_nothing(NOT_OPEN, held.text.as_str().len() as u64, reply);
-        return held;
-    };
-    tell(
-        durable,
-        held.alloc,
-        &mut held.text,
-        what,
-        bytes,
-        from,
-        reply,
-    );
-    held
-}
-
-/// Tells the name of the set of a site over files; the table stays.
-fn tell_file_name(durable: &mut FileSite<Unknown>, name: &mut Name)
-    ensures table { durable.new.table ≡ durable.old.table }
-    ensures owed { durable.new.owed ≡ durable.old.owed }
-    ensures site { durable.new.site ≡ durable.old.site }
-    ensures tells { TellsName (set_of durable.old.site) name.old name.new }
-{
-    tell_name(&mut durable.site, name);
-}
-
-/// Tells libjumbetai's caller the name of the set of a site over files.
-pub fn file_name(mut held: FileHeld, name: &mut Name) -> FileHeld
-    ensures { NamedFile held result name.old name.new }
-{
-    held.offers.let_go(held.alloc);
-    let Some(durable) = &mut held.durable else {
-        name.status = NOT_OPEN;
-        return held;
-    };
-    tell_file_name(durable, name);
-    held
-}
-
-/// A copy of libjumbetai's site over files, if open; one without events where memory runs out.
-fn copy_in(durable: &Option<FileSite<Unknown>>, alloc: Global) -> Site
-    ensures { MatchOption durable.now (result ≡ [])
-        (λ d. (result ≡ d.site) ⊎ ((result ≡ []) × (d.site ≢ []))) }
-{
-    match durable {
-        Some(durable) => copy_of(&durable.site, alloc),
-        None => Site::empty(alloc),
-    }
-}
-
-/// The copy of a site over files in memory, without text; without events where memory runs out.
-pub fn file_copy(held: &mut FileHeld) -> Held
-    ensures { CopiedFile held.old held.new result }
-{
-    Held {
-        site: copy_in(&held.durable, held.alloc),
-        text: Text::from_string(String::new(held.alloc)),
-        alloc: held.alloc,
-    }
-}
-
-/// Tells how far a site over files and the peer of the bytes are apart; the table stays.
-fn compare_file(durable: &mut FileSite<Unknown>, alloc: Global, peer: &[u8], lag: &mut Lag)
-    ensures table { durable.new.table ≡ durable.old.table }
-    ensures owed { durable.new.owed ≡ durable.old.owed }
-    ensures site { durable.new.site ≡ durable.old.site }
-    ensures tells { TellsLag peer.now (set_of durable.old.site) lag.new }
-{
-    compare(&mut durable.site, alloc, peer, lag);
-}
-
-/// Tells libjumbetai's caller how far a site over files and the peer of the bytes are apart.
-pub fn file_compare(mut held: FileHeld, peer: &[u8], lag: &mut Lag) -> FileHeld
-    ensures { ComparedFile peer.now held result lag.new }
-{
-    held.offers.let_go(held.alloc);
-    let Some(durable) = &mut held.durable else {
-        *lag = no_lag(NOT_OPEN);
-        return held;
-    };
-    compare_file(durable, held.alloc, peer, lag);
-    held
-}
-
-/// Keeps the part of what a peer lacks of a site over files; the table stays.
-fn show_file_part(
-    durable: &mut FileSite<Unknown>,
-    alloc: Global,
-    text: &mut Text,
-    peer: &[u8],
-    from: u64,
-    most: u64,
-    size: u64,
-    reply: &mut Reply,
-)
-    ensures table { durable.new.table ≡ durable.old.table }
-    ensures owed { durable.new.owed ≡ durable.old.owed }
-    ensures shows { PartLacked peer.now from most size
-        (record { site = durable.old.site; text = text.old; alloc = alloc })
-        (record { site = durable.new.site; text = text.new; alloc = alloc }) reply.new }
-{
-    show_part(
-        &mut durable.site,
-        alloc,
-        text,
-        peer,
-        from,
-        most,
-        size,
-        reply,
-    );
-}
-
-/// Keeps as libjumbetai's text the part of what a peer lacks of a site over files, from a place on.
-pub fn file_part(
-    mut held: FileHeld,
-    peer: &[u8],
-    from: u64,
-    most: u64,
-    size: u64,
-    reply: &mut Reply,
-) -> FileHeld
-    ensures { PartLackedFile peer.now from most size held result reply.new }
-{
-    held.offers.let_go(held.alloc);
-    let alloc = held.alloc;
-    let Some(durable) = &mut held.durable else {
-        tell_nothing(NOT_OPEN, held.text.as_str().len() as u64, reply);
-        return held;
-    };
-    show_file_part(
-        durable,
-        alloc,
-        &mut held.text,
-        peer,
-        from,
-        most,
-        size,
-        reply,
-    );
-    held
-}
-
-/// Keeps as libjumbetai's text the lines of the events of a source and an id, in a site over files.
-pub fn file_get(mut held: FileHeld, source: &[u8], id: &[u8], reply: &mut Reply) -> FileHeld
-    ensures { FoundFile source.now id.now held result reply.new }
-{
-    held.offers.let_go(held.alloc);
-    let Some(durable) = &mut held.durable else {
-        tell_nothing(NOT_OPEN, held.text.as_str().len() as u64, reply);
-        return held;
-    };
-    find(&durable.site, held.alloc, &mut held.text, source, id, reply);
-    held
-}
-
-/// Offers a body to libjumbetai's site over files, which stands behind those that were offered.
-pub fn file_offer(held: FileHeld, bytes: &[u8], reply: &mut Reply) -> FileHeld
-    ensures { Offered bytes.now held result reply.new }
-{
-    let FileHeld {
-        durable,
-        text,
-        offers,
-        alloc,
-    } = held;
-    tell_nothing(OUT_OF_MEMORY, text.as_str().len() as u64, reply);
-    let offers = match with_bytes(alloc, offers, bytes, reply) {
-        Ok(offers) => offers,
-        Err(_) => Offers::none(alloc),
-    };
-    FileHeld {
-        durable,
-        text,
-        offers,
-        alloc,
-    }
-}
-
 /// Puts a body behind those that were offered to libjumbetai's site, and tells what it came to; at
 /// want of memory all are let go.
-fn with_bytes(
+pub(crate) fn with_bytes(
     alloc: Global,
     offers: Offers,
     bytes: &[u8],
@@ -491,8 +191,12 @@ fn with_bytes(
 }
 
 /// Keeps the bodies that were offered to libjumbetai's site over files.
-fn keep_offers(durable: &mut FileSite<Unknown>, alloc: Global, offers: Offers) -> Offers
-    ensures { KeepsOffers offers result durable.old durable.new }
+pub(crate) fn keep_offers<S: Alter + Drop>(
+    durable: &mut DurableSite<S>,
+    alloc: Global,
+    offers: Offers,
+) -> Offers
+    ensures { KeepsOffers (state S.Store) offers result durable.old durable.new }
 {
     let Offers {
         heads,
@@ -513,77 +217,5 @@ fn keep_offers(durable: &mut FileSite<Unknown>, alloc: Global, offers: Offers) -
             each: List::empty(alloc),
             status: table_status(fault),
         },
-    }
-}
-
-/// Keeps the bodies that were offered to the site that lies in the room, in one transaction.
-pub fn file_keep(held: FileHeld, reply: &mut Reply) -> FileHeld
-    ensures { KeptOffers held result reply.new }
-{
-    let FileHeld {
-        durable,
-        text,
-        offers,
-        alloc,
-    } = held;
-    let length = text.as_str().len() as u64;
-    match durable {
-        Some(mut durable) => {
-            let offers = keep_offers(&mut durable, alloc, offers);
-            tell_nothing(offers.status, length, reply);
-            reply.events = durable.site.arrived();
-            FileHeld {
-                durable: Some(durable),
-                text,
-                offers,
-                alloc,
-            }
-        }
-        None => {
-            tell_nothing(NOT_OPEN, length, reply);
-            FileHeld {
-                durable: None,
-                text,
-                offers: Offers::none(alloc),
-                alloc,
-            }
-        }
-    }
-}
-
-/// Tells libjumbetai's caller what became of the body at a place of those that were offered.
-pub fn file_answer(held: FileHeld, place: u64, reply: &mut Reply) -> FileHeld
-    ensures { HasAnswer place held result reply.new }
-{
-    held.offers.answer(place, reply);
-    held
-}
-
-/// Copies a piece of libjumbetai's answer, counted from 0; a piece behind its end has no bytes.
-pub fn file_read(held: FileHeld, piece: u32, out: &mut Piece) -> FileHeld
-    ensures { HasReadFile piece held result out.old out.new }
-{
-    out.length = copied(held.text.as_str().as_bytes(), piece, &mut out.bytes);
-    held
-}
-
-/// Copies the log into the file, and lets libjumbetai's site over files go.
-pub fn file_close(held: FileHeld)
-    ensures { LetsGo held }
-{
-    let FileHeld {
-        durable,
-        text: _,
-        offers: _,
-        alloc: _,
-    } = held;
-    if let Some(durable) = durable {
-        let DurableSite {
-            table,
-            site: _,
-            owed: _,
-            alloc: _,
-        } = durable;
-        close(table.into_connection());
     }
 }

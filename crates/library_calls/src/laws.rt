@@ -1,16 +1,11 @@
 //! Laws of what lies in a caller's room, each as the contract of a function that does nothing.
 
-ghost use Rattle.library_calls.specs.Law.{FileSitesMayGo, NumberersMayGo, OutboxesMayGo, SitesMayGo};
+ghost use Rattle.library_calls.specs.Law.{NumberersMayGo, OutboxesMayGo, SitesMayGo};
 
-/// A site of libjumbetai may go to another thread. Whoever takes it there sees to it that one
+/// A site of libjumbetai may go to another thread, with its files, which belong to none. Whoever takes it there sees to it that one
 /// thread at a time uses it.
 pub fn sites_may_go()
     ensures { SitesMayGo }
-{}
-
-/// So may libjumbetai's site over files go, with the files, which belong to no thread.
-pub fn file_sites_may_go()
-    ensures { FileSitesMayGo }
 {}
 
 /// So may libjumbetai's outbox over files go to another thread.

@@ -10,17 +10,17 @@ ghost use Rattle.parts.specs.declared.fault.CombineFault.TheVariants as fault;
 ghost use Rattle.views.specs.Question.{IsAnswer};
 ghost use Rattle.views.specs.declared.query.Query.{Query};
 ghost use Rattle.library_calls.specs.Calls.{IsDoneOrWant, question_number};
-ghost use Rattle.library_calls.specs.Parts.{AnswersQuestionOrSummary, AnswersSummary, AnswersWhole, Combined, IsNoPartText, IsSplit, IsUnsplit, IsWholeOfTexts, IsWholeSummary, RefusesSummaryTexts, RefusesTexts, Split, SummariesWantMemoryAlone, TellsCombineFault, TellsSourcePart, TellsCombineStatus, WantsMemoryAlone, cut, has_covers, no_answer, no_text, part_lines, summary_number, text_after};
+ghost use Rattle.library_calls.specs.Parts.{AnswersQuestionOrSummary, AnswersSummary, AnswersWhole, IsNoPartText, IsSplit, IsUnsplit, IsWholeOfTexts, IsWholeSummary, RefusesSummaryTexts, RefusesTexts, Split, SummariesWantMemoryAlone, TellsCombineFault, TellsSourcePart, TellsCombineStatus, WantsMemoryAlone, cut, has_covers, no_answer, no_text, part_lines, summary_number, text_after};
 ghost use Rattle.library_calls.specs.declared.part_calls.TextFault.TheVariants as text;
 
 use crate::calls::{
     Answered, DONE, NO_SUCH_QUESTION, OUT_OF_MEMORY, Reply, batch_line, batch_of, keep, query_at,
 };
-use crate::held::Held;
 use attributes::{Batch, Text};
 use parts::{
     CombineFault, combine, combine_summaries, has_covers, is_count, no_answer, part_of, split,
 };
+use site::Site;
 use std::alloc::{AllocError, AllocFailed, Global};
 use views::Query;
 
@@ -129,12 +129,19 @@ fn split_bytes(alloc: Global, bytes: &[u8], count: u64) -> Result<Answered, u32>
 }
 
 /// Keeps as libjumbetai's text the lines of the parts of the events that the bytes spell.
-pub fn site_split(mut held: Held, bytes: &[u8], count: u64, reply: &mut Reply) -> Held
-    ensures { Split bytes.now count held result reply.new }
+pub(crate) fn show_split(
+    site: &Site,
+    alloc: Global,
+    text: &mut Text,
+    bytes: &[u8],
+    count: u64,
+    reply: &mut Reply,
+)
+    ensures { Split bytes.now count (record { site = site.now; text = text.old })
+        (record { site = site.now; text = text.new }) reply.new }
 {
-    let made = split_bytes(held.alloc, bytes, count);
-    keep(&held.site, &mut held.text, made, reply);
-    held
+    let made = split_bytes(alloc, bytes, count);
+    keep(site, text, made, reply);
 }
 
 /// The texts that lie one behind the other in the caller's bytes, by how many bytes each has.
@@ -357,7 +364,7 @@ fn answer_summary(
 
 /// Answers what a number stands for over the whole in place of libjumbetai's text, or tells why
 /// there is no answer.
-fn answer_number(
+pub(crate) fn answer_number(
     alloc: Global,
     text: &mut Text,
     number: u32,
@@ -386,33 +393,4 @@ fn answer_number(
             }
         }
     }
-}
-
-/// Answers the question of a number over the whole, from texts that lie in bytes one behind the
-/// other, by how many bytes each has: so many answers of the parts, and behind them their covers.
-/// Number 8 is the summary, of version 2, from so many summaries of the parts.
-pub fn site_combine(
-    mut held: Held,
-    query: u32,
-    answers: u64,
-    bytes: &[u8],
-    lengths: &[u64],
-    reply: &mut CombineReply,
-) -> Held
-    ensures { Combined query
-        (record { answers = answers; bytes = bytes.now; lengths = lengths.now })
-        held result reply.new }
-{
-    let room = &mut held;
-    answer_number(
-        room.alloc,
-        &mut room.text,
-        query,
-        answers,
-        bytes,
-        lengths,
-        reply,
-    );
-    reply.length = held.text.as_str().len() as u64;
-    held
 }

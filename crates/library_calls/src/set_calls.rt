@@ -9,12 +9,11 @@ ghost use Rattle.site.specs.Delta.{delta};
 ghost use Rattle.site.specs.Key.{with_key};
 ghost use Rattle.site.specs.Mark.{IsMark};
 ghost use Rattle.library_calls.specs.Calls.{IsPageLine, IsPeer, IsRefusedPeer};
-ghost use Rattle.library_calls.specs.Sets.{Arrived, Compared, Copied, Found, IsApart, IsFound, IsNamed, IsLag, IsNameOf, IsPartLine, IsSizedPart, LacksPart, Named, PartLacked, Released, TellsLag, TellsName, Tested, WantsFound, bytes_of, part_limit};
+ghost use Rattle.library_calls.specs.Sets.{Arrived, Found, IsApart, IsFound, IsNamed, IsLag, IsNameOf, IsPartLine, IsSizedPart, LacksPart, PartLacked, Released, TellsLag, TellsName, Tested, WantsFound, bytes_of, part_limit};
 
 use crate::calls::{
     Answered, DONE, MAX_PAGE, OUT_OF_MEMORY, Reply, batch_of, keep, page_line, peer_of,
 };
-use crate::held::Held;
 use attributes::{Batch, Text};
 use coverage::Summary;
 use event_json::write_lent;
@@ -63,8 +62,8 @@ pub(crate) fn show_arrivals(
     after: u64,
     reply: &mut Reply,
 )
-    ensures { Arrived after (record { site = site.now; text = text.old; alloc = alloc })
-        (record { site = site.now; text = text.new; alloc = alloc }) reply.new }
+    ensures { Arrived after (record { site = site.now; text = text.old })
+        (record { site = site.now; text = text.new }) reply.new }
 {
     let page = site.arrivals_after(after, MAX_PAGE);
     let made = page_line(alloc, page);
@@ -73,8 +72,8 @@ pub(crate) fn show_arrivals(
 
 /// Lets the text of the last answer of libjumbetai's site go.
 pub(crate) fn release(site: &Site, alloc: Global, text: &mut Text, reply: &mut Reply)
-    ensures { Released (record { site = site.now; text = text.old; alloc = alloc })
-        (record { site = site.now; text = text.new; alloc = alloc }) reply.new }
+    ensures { Released (record { site = site.now; text = text.old })
+        (record { site = site.now; text = text.new }) reply.new }
 {
     let empty = Text::from_string(String::new(alloc));
     let made = Ok(Answered {
@@ -105,14 +104,6 @@ pub(crate) fn tell_name(site: &mut Site, name: &mut Name)
         }
         Err(_) => name.status = OUT_OF_MEMORY,
     }
-}
-
-/// Tells the name of the set of the site that lies in the room.
-pub fn site_name(mut held: Held, name: &mut Name) -> Held
-    ensures { Named held result name.old name.new }
-{
-    tell_name(&mut held.site, name);
-    held
 }
 
 /// How far two summaries are apart, for libjumbetai's caller.
@@ -171,14 +162,6 @@ pub(crate) fn compare(site: &mut Site, alloc: Global, peer: &[u8], lag: &mut Lag
         Ok(found) => found,
         Err(status) => no_lag(status),
     };
-}
-
-/// Tells how far the site that lies in the room and the peer of the bytes are apart.
-pub fn site_compare(mut held: Held, peer: &[u8], lag: &mut Lag) -> Held
-    ensures { Compared peer.now held result lag.new }
-{
-    compare(&mut held.site, held.alloc, peer, lag);
-    held
 }
 
 /// How many events a part that libjumbetai's caller asks for has at most.
@@ -315,36 +298,11 @@ pub(crate) fn show_part(
     reply: &mut Reply,
 )
     ensures { PartLacked peer.now from most size
-        (record { site = site.old; text = text.old; alloc = alloc })
-        (record { site = site.new; text = text.new; alloc = alloc }) reply.new }
+        (record { site = site.old; text = text.old })
+        (record { site = site.new; text = text.new }) reply.new }
 {
     let made = part_at(alloc, site, peer, from, most, size);
     keep(site, text, made, reply);
-}
-
-/// Shows a part of what a peer lacks of the site that lies in the room, as [`show_part`] does.
-pub fn site_part(
-    mut held: Held,
-    peer: &[u8],
-    from: u64,
-    most: u64,
-    size: u64,
-    reply: &mut Reply,
-) -> Held
-    ensures { PartLacked peer.now from most size held result reply.new }
-{
-    let alloc = held.alloc;
-    show_part(
-        &mut held.site,
-        alloc,
-        &mut held.text,
-        peer,
-        from,
-        most,
-        size,
-        reply,
-    );
-    held
 }
 
 /// The copy in memory of libjumbetai's site, with its events; without any where memory runs out.
@@ -354,17 +312,6 @@ pub(crate) fn copy_of(site: &Site, alloc: Global) -> Site
     match site.copy() {
         Ok(copy) => copy,
         Err(_) => Site::empty(alloc),
-    }
-}
-
-/// The same copy of the site that lies in a room, with no text.
-pub fn site_copy(held: &mut Held) -> Held
-    ensures { Copied held.old held.new result }
-{
-    Held {
-        site: copy_of(&held.site, held.alloc),
-        text: Text::from_string(String::new(held.alloc)),
-        alloc: held.alloc,
     }
 }
 
@@ -407,20 +354,11 @@ pub(crate) fn find(
     id: &[u8],
     reply: &mut Reply,
 )
-    ensures { Found source.now id.now (record { site = site.now; text = text.old; alloc = alloc })
-        (record { site = site.now; text = text.new; alloc = alloc }) reply.new }
+    ensures { Found source.now id.now (record { site = site.now; text = text.old })
+        (record { site = site.now; text = text.new }) reply.new }
 {
     let made = found_at(alloc, site, source, id);
     keep(site, text, made, reply);
-}
-
-/// Finds events in the site that lies in the room, as [`find`] does.
-pub fn site_get(mut held: Held, source: &[u8], id: &[u8], reply: &mut Reply) -> Held
-    ensures { Found source.now id.now held result reply.new }
-{
-    let room = &mut held;
-    find(&room.site, room.alloc, &mut room.text, source, id, reply);
-    held
 }
 
 /// Tells libjumbetai's caller what taking bytes would come to, and how many events they spell.

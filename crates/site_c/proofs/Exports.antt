@@ -114,29 +114,7 @@ module _ {M : Type 1} {𝓤 : Ura M} (𝓛 : Logic 𝓤) (R : RattleType) (one :
       move t (2 ∷ []) $ split t $ move t (1 ∷ []) $ fsplit t $ drop t $
       move t (2 ∷ 0 ∷ []) $ fjoin t $ move t (1 ∷ 0 ∷ []) $ join t $ nothing t $ move t (1 ∷ 0 ∷ []) $ join t $ s)
 
-  -- the callee takes it and gives nothing, and the place is room
-  module _ {Ws : Type 0} (L : Ws → Fml) (ends : (q : Ptr) → ent 𝓤 (sep 𝓤 tokens (sep 𝓤 (sem 𝓛 (fsep ftrue ftrue))
-      (sep 𝓤 (sem 𝓛 (feq (List Val) (vunit ∷ []) (vunit ∷ []))) (sem 𝓛 (room_at R q))))) (Q q vunit)) where
-    abbrev Gone : Val → SProp 𝓤
-    Gone u = H.⇛ (ex 𝓤 (λ (r : Unit {0}). sep 𝓤 (sep 𝓤 tokens (sem 𝓛 (unit.own_val r (u ∷ [])))) (ex 𝓤 (λ (ws : Ws). sep 𝓤 (sem 𝓛 (L ws)) (emp 𝓤)))))
-
-    pub lets_go : Called [] Gone → Walks (letting_go τ k) []
-    lets_go met = starts _ _ (λ b o v t.
-        enter ! _ _ _ _ _ $ alloc_all ! (λ l. pass_all ! refl ((tt, tt), tt) $
-        sets ! (of_opd ! (get ! refl)) refl (tt, tt) $
-        sets ! (of_opd ! (load ! (through ! refl (stop !)) (look ! 1 refl))) refl t $ hands ! v $
-        calls_from ! fm (Given v) (v ∷ []) Gone (met v) (and_then ! (get ! refl) (no_more !)) (λ u.
-        use1 𝓛 (later (some (λ (r : Unit {0}). (raw tokens ⊛ ‵ (unit.own_val r (u ∷ []))) ⊛ some (λ (ws : Ws). ‵ (L ws) ⊛ ‵ ftrue)))) (id⊢ 𝓤 _) $
-        await ! tt $ pick ! (λ r. split ! $ move ! (1 ∷ []) $ pick ! (λ ws. split ! $ drop ! $ drop ! $ split ! $ move ! (1 ∷ []) $ feq_l ! (λ is_unit.
-        lands_as ! (ap only is_unit) refl (tt, tt) $
-        sets ! (of_opd ! (unit_lit !)) refl (tt, tt) $
-        returns ! (look_at ! 0 refl) $ free_all ! refl $
-        -- [the tokens; the cell]
-        move ! (1 ∷ []) $ forget ! 0 refl $ use1 𝓛 (‵ (room_at R (block_ptr b o))) (id⊢ 𝓤 _) $
-        feq_i ! (List Val) (vunit ∷ []) (vunit ∷ []) refl $ nothing ! $ nothing ! $ fjoin ! $
-        keep ! (3 ∷ 0 ∷ 1 ∷ 2 ∷ []) $ by ! (ends (block_ptr b o))))))))
-
-  -- the same where it promises something
+  -- the callee takes it and gives nothing but a promise, and the place is room
   module _ {Ws : Type 0} (L : Ws → Fml) (Φ : Type 0) (ends : (q : Ptr) → ent 𝓤 (sep 𝓤 tokens (sep 𝓤 (sem 𝓛 (fsep ftrue ftrue))
       (sep 𝓤 (sem 𝓛 (feq (List Val) (vunit ∷ []) (vunit ∷ []))) (sep 𝓤 (sem 𝓛 (room_at R q)) (fact 𝓤 Φ))))) (Q q vunit)) where
     abbrev Shut : Val → SProp 𝓤

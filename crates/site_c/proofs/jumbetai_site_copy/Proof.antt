@@ -7,7 +7,7 @@ use types.SemTy.{Body}
 use mir.Val.{vptr}
 use denote.Lend.{lends_ref, ref_back}
 use denote.Memory.{mem}
-use Rattle.library_calls.specs.Sets.{Copied}
+use Rattle.library_calls.specs.Rooms.{RoomCopied}
 use Rattle.library_calls.specs.contracts.held.Held.{the_row as R}
 use Rattle.library_calls.proofs.held.Held.TheLaws.{the_row_laws as LR}
 use Rattle.site_c.specs.contracts.jumbetai_site_copy as f
@@ -49,10 +49,10 @@ jumbetai_site_copy_spec 𝓤 𝓛 𝓜 𝓡 wired =
     nothing ! $ move ! (1 ∷ 0 ∷ []) $ use2 𝓛 (raw (G.pre z)) (id⊢ 𝓤 _) $
     calls_at ! (framed 𝓤 𝓛.H 𝓜 𝓣) G (met 𝓤 𝓛 𝓜 𝓡 (code.calls-site_c::calls::site_copy 𝓡.env wired)) z (and_then ! (get ! refl) (no_more !)) (λ u.
     use1 𝓛 (later (some (λ (r : R.Denot). ((‵ (flft (α ∷ []) full_share) ⊛ ‵ ftrue) ⊛ ‵ (R.own_val r (u ∷ []))) ⊛
-    some (λ (ws : Lasts g.ended z.0.0 z.0.3). ‵ (lasts g.ended z.0.0 z.0.3 ws) ⊛ raw (fact 𝓤 (Copied h ws.0 r)))))) (id⊢ 𝓤 _) $
+    some (λ (ws : Lasts g.ended z.0.0 z.0.3). ‵ (lasts g.ended z.0.0 z.0.3 ws) ⊛ raw (fact 𝓤 (RoomCopied h ws.0 r)))))) (id⊢ 𝓤 _) $
     await ! tt $ pick ! (λ r. split ! $ split ! $ split ! $ lft_end ! tt $
     -- [the loan is over; nothing; the value; the last value; what the lender keeps; the tokens; the room]
-    move ! (3 ∷ []) $ pick ! (λ ws. split ! $ move ! (1 ∷ []) $ heard ! (Copied h ws.0 r) (λ told. fsplit ! $ fsplit ! $
+    move ! (3 ∷ []) $ pick ! (λ ws. split ! $ move ! (1 ∷ []) $ heard ! (RoomCopied h ws.0 r) (λ told. fsplit ! $ fsplit ! $
     -- [the last value; the loan's borrow; nothing; the loan is over; nothing; the value; what the lender keeps; the tokens; the room]
     move ! (3 ∷ 6 ∷ 0 ∷ []) $ use3 𝓛 (later (‵ (lies_at R full_share (block_ptr b o) ws.0))) (ref_back 𝓛 R (α ∷ []) γ ws.0 b o) $ await ! tt $
     -- [what lies there; the borrow; nothing; nothing; the value; the tokens; the room]
@@ -68,9 +68,9 @@ jumbetai_site_copy_spec 𝓤 𝓛 𝓜 𝓡 wired =
     returns ! (look_at ! 0 refl) $ free_all ! refl $
     move ! (6 ∷ 0 ∷ []) $ join ! $ use1 𝓛 (‵ (part_at R full_share r b' o')) (part_in 𝓛 R refl full_share r b' o' u) $
     move ! (1 ∷ 0 ∷ []) $ fjoin ! $
-    use0 𝓛 (raw (fact 𝓤 (Copied h ws.0 r))) (fact_i 𝓤 (Copied h ws.0 r) (emp 𝓤) told) $ move ! (1 ∷ 0 ∷ []) $ join ! $
-    use1 𝓛 (raw (ex 𝓤 (λ (x : R.Denot). sep 𝓤 (sem 𝓛 (fsep (lies_at R full_share (block_ptr b o) ws.0) (lies_at R full_share (block_ptr b' o') x))) (fact 𝓤 (Copied h ws.0 x))))) (ex_i 𝓤 (λ (x : R.Denot). sep 𝓤 (sem 𝓛 (fsep (lies_at R full_share (block_ptr b o) ws.0) (lies_at R full_share (block_ptr b' o') x))) (fact 𝓤 (Copied h ws.0 x))) r) $
-    use1 𝓛 (raw (ex 𝓤 (λ (k : R.Denot). ex 𝓤 (λ (x : R.Denot). sep 𝓤 (sem 𝓛 (fsep (lies_at R full_share (block_ptr b o) k) (lies_at R full_share (block_ptr b' o') x))) (fact 𝓤 (Copied h k x)))))) (ex_i 𝓤 (λ (k : R.Denot). ex 𝓤 (λ (x : R.Denot). sep 𝓤 (sem 𝓛 (fsep (lies_at R full_share (block_ptr b o) k) (lies_at R full_share (block_ptr b' o') x))) (fact 𝓤 (Copied h k x)))) ws.0) $
+    use0 𝓛 (raw (fact 𝓤 (RoomCopied h ws.0 r))) (fact_i 𝓤 (RoomCopied h ws.0 r) (emp 𝓤) told) $ move ! (1 ∷ 0 ∷ []) $ join ! $
+    use1 𝓛 (raw (ex 𝓤 (λ (x : R.Denot). sep 𝓤 (sem 𝓛 (fsep (lies_at R full_share (block_ptr b o) ws.0) (lies_at R full_share (block_ptr b' o') x))) (fact 𝓤 (RoomCopied h ws.0 x))))) (ex_i 𝓤 (λ (x : R.Denot). sep 𝓤 (sem 𝓛 (fsep (lies_at R full_share (block_ptr b o) ws.0) (lies_at R full_share (block_ptr b' o') x))) (fact 𝓤 (RoomCopied h ws.0 x))) r) $
+    use1 𝓛 (raw (ex 𝓤 (λ (k : R.Denot). ex 𝓤 (λ (x : R.Denot). sep 𝓤 (sem 𝓛 (fsep (lies_at R full_share (block_ptr b o) k) (lies_at R full_share (block_ptr b' o') x))) (fact 𝓤 (RoomCopied h k x)))))) (ex_i 𝓤 (λ (k : R.Denot). ex 𝓤 (λ (x : R.Denot). sep 𝓤 (sem 𝓛 (fsep (lies_at R full_share (block_ptr b o) k) (lies_at R full_share (block_ptr b' o') x))) (fact 𝓤 (RoomCopied h k x)))) ws.0) $
     -- [what lies there; the borrow; nothing; nothing; the tokens]
     move ! (0 ∷ 4 ∷ []) $
     feq_i ! (List Val) (vunit ∷ []) (vunit ∷ []) refl $ nothing ! $ nothing ! $ fjoin ! $ nothing ! $ fjoin ! $

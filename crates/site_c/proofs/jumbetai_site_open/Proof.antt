@@ -1,6 +1,6 @@
 -- A new value is written into the room.
 use Rattle.site_c.proofs.Steps.{List, [], ◌∷◌, refl, proved, leaves, full_share, id⊢, emp, ex, ex_i, sep, ftrue, fsep, Val, vunit, fact, fact_i, tables, WpFn, sem, ‵, raw, ◌⊛◌, some, later, prop, ◌$◌, ◌∵◌, !, qed, by, move, keep, drop, use0, use1, split, join, fsplit, fjoin, feq_i, pick, await, regoal, enter, of_opd, unit_lit, init, stop, no_more, and_then, assigns, returns, alloc_all, pass_all, free_all, look_at, get, through, sets, lands_as, yes, Is, shows, part_at, Ptr, RawPtr, block_ptr, lies_at, room_at, in_a_block, rawptr_vals, rawptr_Tells, plain, nothing, heard, peeks, calls_at, lasts, Lasts, alive, triple_of, framed, Stays, walk_of, stay_dropped, Goes-dropped, part_in}
-use Rattle.library_calls.specs.Calls.{IsEmpty}
+use Rattle.library_calls.specs.Rooms.{IsEmpty}
 use Rattle.std.proofs.alloc.Calls.{Goes-blank}
 use Rattle.std.specs.contracts.alloc.Global as heap
 use Rattle.std.proofs.alloc.Global.TheLaws as heap_laws

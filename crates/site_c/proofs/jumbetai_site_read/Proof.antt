@@ -1,6 +1,6 @@
 use Rattle.site_c.proofs.Steps.{[], ◌∷◌, refl, w32}
 use Rattle.site_c.proofs.Exports.{number_kept, type_of}
-use Rattle.library_calls.specs.Calls.{HasReadPiece}
+use Rattle.library_calls.specs.Rooms.{HasReadPiece}
 use Rattle.library_calls.specs.contracts.held.Held.{the_row as R}
 use Rattle.library_calls.specs.contracts.calls.Piece.{the_row as A}
 use Rattle.library_calls.proofs.held.Held.TheLaws.{the_row_laws as LR}

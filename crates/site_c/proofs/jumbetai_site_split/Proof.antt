@@ -1,6 +1,6 @@
 use Rattle.site_c.proofs.Steps.{List, [], ◌∷◌, refl, proved, leaves, named, Val, vunit, tables, yes, lone, owns, u8, u64, ShrSlice, SliceRefOf, MutRef, Ptr, RawPtr, rawptr_vals, rawptr_Tells, mut_vals, mut_Tells, shr_slice_vals, shr_slice_Tells, uint_vals, uint_Tells, w64, plain, Lasts, left, lasts_of, alive, framed, Stays, walk_of, stay_dropped, gave_ref, Goes-dropped, Goes-gave_ref}
 use Rattle.site_c.proofs.Exports.{behind, head, keeps_2, type_of}
-use Rattle.library_calls.specs.Parts.{Split}
+use Rattle.library_calls.specs.Rooms.{RoomSplit}
 use Rattle.library_calls.specs.contracts.held.Held.{the_row as R}
 use Rattle.library_calls.specs.contracts.calls.Reply.{the_row as A}
 use Rattle.library_calls.proofs.held.Held.TheLaws.{the_row_laws as LR}
@@ -24,5 +24,5 @@ jumbetai_site_split_spec 𝓤 𝓛 𝓜 𝓡 wired =
     let y : Ptr → W.Ghost = λ p. ((κs, qs, bounds, (p, a.1), (rawptr_vals p, rest)), h) in
     keeps_2 𝓛 R refl (λ x v is. ((LR.lawful 𝓛).typed x (v ∷ []) is).0) 𝓣.C (framed 𝓤 𝓛.H 𝓜 𝓣) 𝓣.Λ name
     (alive 𝓛 f.signature κs qs) (owns (ShrSlice (named 0) κs.0 u8 ∷ u64 ∷ MutRef (named 1) κs.1.0 A ∷ []) a.1 rest) a.0 h (λ p. W.post (y p))
-    (λ (ws : Lasts g.ended κs (h, a.1)). left (R.exit g.ended.kept.0) h ws.0) (λ ws. lasts_of κs (behind g.signature.params) g.ended.kept.1 a.1 ws.1) (λ r ws. Split a.1.0.now a.1.1.0 h r ws.1.1.1.0) (λ p ws. leaves 𝓛 f.ended stayed c (y p) vunit tt (tt, (tt, (tt, (ws.1.1.1.0, tt)))) (tt, (tt, (tt, (tt, tt)))))
+    (λ (ws : Lasts g.ended κs (h, a.1)). left (R.exit g.ended.kept.0) h ws.0) (λ ws. lasts_of κs (behind g.signature.params) g.ended.kept.1 a.1 ws.1) (λ r ws. RoomSplit a.1.0.now a.1.1.0 h r ws.1.1.1.0) (λ p ws. leaves 𝓛 f.ended stayed c (y p) vunit tt (tt, (tt, (tt, (ws.1.1.1.0, tt)))) (tt, (tt, (tt, (tt, tt)))))
     2 (type_of 4 code.function.locals) (type_of 8 code.function.locals) (lone A.mir) a.1.1.1.0.ref_ptr.0 a.1.1.1.0.ref_ptr.1 (tt, tt) (tt, tt) (lone (ShrSlice (named 0) κs.0 u8).mir) (head (shr_slice_vals a.1.0)) (tt, (tt, (record { fits = are.1.0.0.1.0 }, tt))) (lone u64.mir) (head (uint_vals w64 a.1.1.0)) (tt, record { fits = are.1.1.0.1 }) (λ v. met 𝓤 𝓛 𝓜 𝓡 (code.calls-site_c::calls::site_split 𝓡.env wired) ((κs, qs, tt, (h, a.1), (v ∷ [], rest)), tt)))

@@ -1,6 +1,6 @@
 use Rattle.site_c.proofs.Steps.{[], ◌∷◌, refl}
 use Rattle.site_c.proofs.Exports.{bytes_kept, type_of}
-use Rattle.library_calls.specs.Calls.{Took}
+use Rattle.library_calls.specs.Rooms.{RoomTook}
 use Rattle.library_calls.specs.contracts.held.Held.{the_row as R}
 use Rattle.library_calls.specs.contracts.calls.Reply.{the_row as A}
 use Rattle.library_calls.proofs.held.Held.TheLaws.{the_row_laws as LR}
@@ -11,6 +11,6 @@ use Rattle.site_c.proofs.calls.site_take.Symbol.{name}
 use Rattle.site_c.proofs.calls.site_take.Met.{met}
 
 pub jumbetai_site_take_spec : {M : Type 1} → statement M
-jumbetai_site_take_spec 𝓤 𝓛 𝓜 𝓡 wired = bytes_kept R A (λ bytes h r old new. Took bytes h r new) 𝓛 refl (λ h v is. ((LR.lawful 𝓛).typed h (v ∷ []) is).0)
+jumbetai_site_take_spec 𝓤 𝓛 𝓜 𝓡 wired = bytes_kept R A (λ bytes h r old new. RoomTook bytes h r new) 𝓛 refl (λ h v is. ((LR.lawful 𝓛).typed h (v ∷ []) is).0)
     𝓜 𝓡 key name (type_of 3 code.function.locals) (type_of 7 code.function.locals) (λ b o. (tt, tt)) (λ b o. (tt, tt))
     (code.unfolded 𝓤 𝓛.H 𝓜 𝓡 wired) (met 𝓤 𝓛 𝓜 𝓡 (code.calls-site_c::calls::site_take 𝓡.env wired))

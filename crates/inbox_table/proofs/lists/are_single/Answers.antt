@@ -1,4 +1,4 @@
-use Rattle.std.proofs.Common.{◌≡◌, ◌∙◌, sym}
+use Rattle.std.proofs.Common.{◌∙◌, sym}
 use Rattle.inbox_table.proofs.ListsLemmas.{single_next}
 use Rattle.inbox_table.proofs.lists.are_single.Goals as goal
 

@@ -6,7 +6,7 @@ use Rattle.sqlite.proofs.Callers.{survives_begin}
 use Rattle.inbox_table.specs.Calls.{IsSettled, KeepEachEffect, MayTake, Stands, joined}
 use Rattle.inbox_table.specs.steps.Turns.{IsKeepingEach}
 use Rattle.inbox_table.proofs.KeepLemmas.{effect_done, ends}
-use Rattle.inbox_table.proofs.ListsLemmas.{each_as_one, each_done, each_fresh}
+use Rattle.inbox_table.proofs.ListsLemmas.{each_as_one, each_fresh}
 use Rattle.inbox_table.proofs.lists.keep_lists.Goals as goal
 
 pub returns-clause-effect : goal.returns-clause-effect

@@ -1,4 +1,4 @@
-use Rattle.std.proofs.Common.{◌≡◌, length, min, ◌+◌, ◌-◌, ◌^◌, ap, ◌∙◌}
+use Rattle.std.proofs.Common.{min, ◌+◌, ◌-◌, ◌^◌, ap, ◌∙◌}
 use Rattle.inbox_table.proofs.ListsLemmas.{length_next}
 use Rattle.inbox_table.proofs.lists.length_of.Goals as goal
 

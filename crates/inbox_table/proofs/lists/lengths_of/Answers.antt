@@ -1,4 +1,4 @@
-use Rattle.std.proofs.Common.{◌≡◌, ◌+◌, ◌-◌, ◌++◌, ◌∙◌, ap, arith, drop, length, map, subst, sym, take, [], ◌∷◌, Some, slice_get}
+use Rattle.std.proofs.Common.{◌≡◌, ◌+◌, ◌-◌, ◌++◌, ◌∙◌, ap, arith, drop, length, map, sym, take, [], ◌∷◌, Some, slice_get}
 use Rattle.inbox_table.proofs.ListsLemmas.{lengths_next}
 use Rattle.inbox_table.proofs.lists.lengths_of.Goals as goal
 

@@ -1,4 +1,4 @@
-use Rattle.std.proofs.Common.{◌≡◌, ◌≤◌, ℕ, [], ◌*◌, ◌+◌, ◌-◌, ◌++◌, ◌∙◌, ap, arith, drop, length, length-append, min, refl, subst, sum, sym, take}
+use Rattle.std.proofs.Common.{◌≡◌, ◌≤◌, ℕ, [], ◌*◌, ◌+◌, ◌-◌, ◌∙◌, ap, arith, drop, length, length-append, min, subst, sum, sym, take}
 use Rattle.std.proofs.lemmas.List.Sums.{sum_by-append}
 use Rattle.sqlite.specs.Held.{state}
 use Rattle.sqlite.proofs.StateLemmas.{survives_then}

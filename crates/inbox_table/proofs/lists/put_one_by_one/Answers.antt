@@ -1,13 +1,9 @@
-use Rattle.std.proofs.Common.{◌≡◌, length-append, ◌+◌, ◌-◌, ◌++◌, ◌≤◌, ◌<◌, ◌^◌, [], ◌∷◌, length, drop, sum, take, refl, subst, ◌∙◌, arith, rules, sym}
-use Rattle.std.proofs.lemmas.List.{drop_all}
-use Rattle.sqlite.specs.State.{KeepsCommit}
+use Rattle.std.proofs.Common.{◌≡◌, length-append, ◌+◌, ◌-◌, ◌++◌, ◌≤◌, [], ◌∷◌, length, drop, sum, take, refl, subst, ◌∙◌, arith, rules, sym}
 use Rattle.sqlite.specs.Held.{state}
-use Rattle.sqlite.proofs.InsideLemmas.{keeps_then}
 use Rattle.sqlite.proofs.StateLemmas.{survives_then}
 use Rattle.inbox_table.specs.Calls.{joined}
-use Rattle.inbox_table.specs.steps.Turns.{IsKeeping, IsKeepingEach}
-use Rattle.inbox_table.proofs.KeepLemmas.{kept_commit}
-use Rattle.inbox_table.proofs.ListsLemmas.{each_commit, each_first, each_next, item_is, joined_at, sum_more}
+use Rattle.inbox_table.specs.steps.Turns.{IsKeepingEach}
+use Rattle.inbox_table.proofs.ListsLemmas.{each_first, each_next, item_is, joined_at, sum_more}
 use Rattle.inbox_table.proofs.InsertLemmas.{get_part}
 use Rattle.inbox_table.proofs.ReadLemmas.{survives_none}
 use Rattle.inbox_table.proofs.lists.put_one_by_one.Goals as goal

@@ -1,9 +1,8 @@
-use Rattle.std.proofs.Common.{◌≡◌, ◌≤◌, ◌-◌, [], ◌∙◌, ap, arith, drop, length, map, subst, sum, sym, take, IfOk, true, false}
+use Rattle.std.proofs.Common.{◌≡◌, ◌-◌, [], ◌∙◌, ap, arith, drop, length, subst, sum, sym, take, true}
 use Rattle.sqlite.specs.Held.{state}
 use Rattle.sqlite.specs.State.{HasCleanDisk, IsUnchanged}
 use Rattle.inbox_table.specs.Calls.{joined}
 use Rattle.inbox_table.specs.steps.Turns.{IsKeeping, IsKeepingEach, PutsGroup}
-use Rattle.inbox_table.proofs.InsertLemmas.{fails_again}
 use Rattle.inbox_table.proofs.ListsLemmas.{each_again, each_of_new, sum_lengths}
 use Rattle.inbox_table.proofs.lists.put_part.Goals as goal
 

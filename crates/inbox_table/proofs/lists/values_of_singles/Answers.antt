@@ -1,4 +1,4 @@
-use Rattle.std.proofs.Common.{◌≡◌, ◌<◌, ◌+◌, ◌++◌, ◌∙◌, ap, arith, drop, length, length-append, subst, sym, take, [], ◌∷◌}
+use Rattle.std.proofs.Common.{◌≡◌, ◌+◌, ◌++◌, ◌∙◌, ap, arith, drop, length, length-append, subst, sym, take, [], ◌∷◌}
 use Rattle.sqlite.specs.Values.{bound}
 use Rattle.inbox_table.specs.Calls.{joined}
 use Rattle.inbox_table.specs.Rows.{AreNumbered}

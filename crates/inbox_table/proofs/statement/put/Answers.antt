@@ -1,7 +1,6 @@
-use Rattle.std.proofs.Common.{◌≡◌, ◌≤◌, arith, subst, IfOk, IsTrue, OnErr, Ok, Err, Result, false, true}
+use Rattle.std.proofs.Common.{arith, false}
 use Rattle.sqlite.specs.Held.{state}
-use Rattle.sqlite.specs.State.{HasCleanDisk, KeepsCommit}
-use Rattle.sqlite.proofs.InsideLemmas.{keeps_then}
+use Rattle.sqlite.specs.State.{HasCleanDisk}
 use Rattle.inbox_table.specs.steps.Turns.{PutsNew}
 use Rattle.inbox_table.proofs.InsertLemmas.{fails_again, puts_again}
 use Rattle.inbox_table.proofs.statement.put.Goals as goal

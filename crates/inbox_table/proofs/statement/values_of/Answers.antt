@@ -1,5 +1,4 @@
-use Rattle.std.proofs.Common.{◌≡◌, ◌+◌, ◌++◌, ◌∙◌, ap, arith, sym, refl}
-use Rattle.sqlite.specs.Values.{bound}
+use Rattle.std.proofs.Common.{◌+◌, ◌++◌, ◌∙◌, ap, sym}
 use Rattle.inbox_table.specs.steps.Turns.{params_of}
 use Rattle.inbox_table.proofs.InsertLemmas.{numbered_next, params_next}
 use Rattle.inbox_table.proofs.statement.values_of.Goals as goal

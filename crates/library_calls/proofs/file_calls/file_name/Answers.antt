@@ -1,5 +1,0 @@
-use Rattle.std.proofs.Common.{inl, refl}
-use Rattle.library_calls.proofs.file_calls.file_name.Goals as goal
-
-pub returns : goal.returns
-returns c = let it = c.tell_file_name.ensures in inl (_, _, c.in-Some.is, refl, it.table, it.owed, (it.site, refl, it.tells))

@@ -1,0 +1,5 @@
+use Rattle.std.proofs.Common.{inl, inr, refl}
+use Rattle.library_calls.proofs.site_calls.site_tell.Goals as goal
+
+pub returns-in-File : goal.returns-in-File
+returns-in-File c = let it = c.tell_file.ensures in inr (inl (_, _, c.in-File.is, refl, it.table, it.owed, it.tells))
