@@ -2,8 +2,8 @@
 
 ghost use Rattle.library_calls.specs.Law.{NumberersMayGo, OutboxesMayGo, SitesMayGo};
 
-/// A site of libjumbetai may go to another thread, with its files, which belong to none. Whoever takes it there sees to it that one
-/// thread at a time uses it.
+/// A site of libjumbetai may go to another thread, with its files, which belong to none. Whoever
+/// takes it there sees to it that one thread at a time uses it.
 pub fn sites_may_go()
     ensures { SitesMayGo }
 {}
