@@ -371,8 +371,8 @@ pub struct Site {
 }
 
 // SAFETY: a site has nothing in common with another one, and it is a law of the library that it may
-// change thread, in memory (`sites_may_go`) and over files (`file_sites_may_go`). What C keeps beside
-// it, numbers and copies of its files' descriptors, belongs to no thread.
+// change thread, in memory and over files (`sites_may_go`). What C keeps beside it, numbers and
+// copies of its files' descriptors, belongs to no thread.
 unsafe impl Send for Site {}
 
 impl Site {

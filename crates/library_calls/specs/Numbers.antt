@@ -172,6 +172,6 @@ HasReadNumbers number held kept was piece = (kept ≡ held)
     × (take piece.length piece.bytes ≡ piece_of number held.text)
     × (drop piece.length piece.bytes ≡ drop piece.length was.bytes)
 
--- what `jumbetai_numbers_close` does to the files of an open numberer, as `jumbetai_file_close` does
+-- what `jumbetai_numbers_close` does to the files of an open numberer, as `jumbetai_site_close` does
 abbrev pub LetsGoNumbers : NumbersHeld → Type 0
 LetsGoNumbers held = MatchOption held.numberer ⊤ (λ n. Closes n.table.conn)

@@ -255,6 +255,6 @@ HasReadOutbox number held kept was piece = (kept ≡ held)
     × (take piece.length piece.bytes ≡ piece_of number held.text)
     × (drop piece.length piece.bytes ≡ drop piece.length was.bytes)
 
--- what `jumbetai_outbox_close` does to the files of an open service, as `jumbetai_file_close` does
+-- what `jumbetai_outbox_close` does to the files of an open service, as `jumbetai_site_close` does
 abbrev pub LetsGoOutbox : OutboxHeld → Type 0
 LetsGoOutbox held = MatchOption held.service ⊤ (λ s. Closes s.conn)
