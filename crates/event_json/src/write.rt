@@ -139,14 +139,15 @@ impl EventList for Lent<'_> {
     }
 }
 
-/// Writes the JSON batch of the list's events, in one piece of its length.
+/// Writes the JSON batch of the list's events, in one piece that has room for the end of a line.
 fn write_list<L: EventList>(alloc: Global, list: &L) -> Result<Text, AllocError>
     ensures text { IfOk result (λ t. t ≡ batch_text (L.list list.now)) }
     ensures reads_back { IfOk result (λ t. length t ≤ max_input → Reads t (L.list list.now)) }
 {
     batch_texts_read_back();
     let len = text_len(list).ok_or(AllocError)?;
-    let mut out = String::with_capacity(alloc, len)?;
+    // Most callers put the end of a line behind it.
+    let mut out = String::with_capacity(alloc, len.saturating_add(1))?;
     out.push_str("[")?;
     for i in 0..list.count() {
         append_event(&mut out, i == 0, list.event_at(i))?;
