@@ -14,6 +14,7 @@ use Rattle.views.specs.Question.{IsAnswer}
 use Rattle.views.specs.declared.query.Query.{Query}
 use Rattle.library_calls.specs.Calls.{AnswersCall, IsDoneOrWant, IsNoQuestion, IsWant, batch_line, question_number}
 use Rattle.library_calls.specs.declared.calls.Reply.{Reply}
+use Rattle.library_calls.specs.Offers.{no_offers}
 use Rattle.library_calls.specs.Shown.{Shown}
 use Rattle.library_calls.specs.declared.held.Held.{Held}
 use Rattle.library_calls.specs.declared.part_calls.CombineReply.{CombineReply}
@@ -227,6 +228,7 @@ AnswersQuestionOrSummary number given was text reply =
 pub record Combined (number : ℕ) (given : Texts) (held kept : Held) (reply : CombineReply)
     : Type 0 where
   pub site : kept.site ≡ held.site
+  pub offers : kept.offers ≡ no_offers
   pub length_is : reply.length ≡ length kept.text
   pub told : AnswersQuestionOrSummary number given held.text kept.text reply
   pub taken : (q : Query) → number ≡ question_number q

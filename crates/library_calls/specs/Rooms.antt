@@ -47,10 +47,10 @@ abbrev pub IsShut : Held → Held → Type 0
 IsShut held kept = (held.site ≡ Closed) × (kept.site ≡ Closed) × (kept.text ≡ held.text)
 
 -- libjumbetai's site did this, in memory or over files, where its table stays, and what is owed; or
--- none is open, and this is told
+-- none is open, and this is told. Bodies that were offered are let go
 abbrev pub Did : (Shown → Shown → Type 0) → Type 0 → Held → Held → Type 0
-Did call shut held kept =
-    DidInMemory call held kept ⊎ (DidOverFiles call held kept ⊎ (IsShut held kept × shut))
+Did call shut held kept = (kept.offers ≡ no_offers)
+    × (DidInMemory call held kept ⊎ (DidOverFiles call held kept ⊎ (IsShut held kept × shut)))
 
 -- the reply says that no site of libjumbetai is open
 pub record TellsShut (kept : Held) (reply : Reply) : Type 0 where
@@ -95,6 +95,7 @@ pub record RoomTook (bytes : List ℕ) (held kept : Held) (reply : Reply) : Type
       ⊎ (TookOverFiles bytes held kept reply ⊎ (IsShut held kept × TellsShut kept reply))
   pub text : kept.text ≡ held.text
   pub length_is : reply.length ≡ length kept.text
+  pub offers : kept.offers ≡ no_offers
 
 -- ---- what is asked
 

@@ -2,4 +2,4 @@ use Rattle.std.proofs.Common.{inl, inr, refl}
 use Rattle.library_calls.proofs.site_calls.site_get.Goals as goal
 
 pub returns-in-File : goal.returns-in-File
-returns-in-File c = inr (inl (_, _, c.in-File.is, refl, refl, refl, c.find-in-File.ensures))
+returns-in-File c = (c.let_go.ensures, inr (inl (_, _, c.in-File.is, refl, refl, refl, c.find-in-File.ensures)))

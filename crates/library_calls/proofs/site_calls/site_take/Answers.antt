@@ -6,4 +6,5 @@ returns-in-File c = record {
   took = inr (inl (_, _, c.in-File.is, refl, c.take_events.ensures.takes));
   text = refl;
   length_is = search rules;
+  offers = c.let_go.ensures;
 }

@@ -2,4 +2,4 @@ use Rattle.std.proofs.Common.{inl, inr, refl}
 use Rattle.library_calls.proofs.site_calls.site_tell.Goals as goal
 
 pub returns-in-File : goal.returns-in-File
-returns-in-File c = let it = c.tell_file.ensures in inr (inl (_, _, c.in-File.is, refl, it.table, it.owed, it.tells))
+returns-in-File c = let it = c.tell_file.ensures in (c.let_go.ensures, inr (inl (_, _, c.in-File.is, refl, it.table, it.owed, it.tells)))
