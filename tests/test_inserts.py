@@ -3,8 +3,10 @@
 No contract says by which statement an event is put in, or how it is looked for: the answer is the same. So instructions are counted,
 which no load changes. To take a new event has 2.2 times the instructions of checking it; put in alone 2.75 times, and looked for first
 some 4.4. To number an event again takes as many among a thousand others as among two hundred, and fewer than a new one where it
-came lately.
+came lately. What `take` adds is written to the log once, which the greatest size of a file shows.
 """
+import os
+import random
 import re
 import shutil
 import subprocess
@@ -62,3 +64,17 @@ def test_what_was_numbered_lately_is_not_looked_for(program: str, room: Room) ->
     none, once, twice = (instructions(program, f"number --db {it}.db {it}", room) for it in ("none", "once", "twice"))
     ratio = (twice - once) / (once - none)
     assert ratio <= 0.9, f"{ratio:.2f} times the instructions of new events"
+
+
+def test_what_is_added_goes_to_the_log_once(room: Room) -> None:
+    """Ids in no order, so that a page that went to the log before the end would be written again: no file grows past what is added."""
+    numbers = list(range(1, 8_001))
+    random.Random(1).shuffle(numbers)
+    data = '"' + "x" * 1_500 + '"'
+    events = (f'{{"specversion":"1.0","id":"{it:07d}","source":"/s","type":"t","sequence":"{it:020d}","data":{data}}}' for it in numbers)
+    room.put({"events.json": f"[{','.join(events)}]"})
+    answer = room.run("site take --db free.db events.json")
+    assert answer.out == "read 8000 new 8000 repeated 0\n"
+    size = os.path.getsize(room.at("free.db"))
+    assert room.run(f"trap '' XFSZ; ulimit -f {size * 11 // 10 // 1024}; site take --db limited.db events.json") == answer
+    assert os.path.getsize(room.at("limited.db")) == size

@@ -143,8 +143,9 @@ pub(crate) fn opened<T: Start>(
     ensures refused { RefusesFiles (image_at T.Start) result }
     ensures opening { IfErr result IsOfOpening }
 {
-    let pages = pages_for(length_of(rt, name), growth, most_pages(rt)?);
-    let options = options(rt, pages)?;
+    let most = most_pages(rt)?;
+    let pages = pages_for(length_of(rt, name), growth, most);
+    let options = options(rt, pages, most)?;
     match sqlite_std_file::open(rt, name, start) {
         Ok(files) => match Connection::open_files(rt.alloc(), files, options) {
             Ok(conn) => Ok(conn),
@@ -205,8 +206,12 @@ fn pages_of(mib: &str) -> Option<u64>
     }
 }
 
-/// How a command opens a database, with a seed drawn at random.
-fn options(rt: &HostRuntime, pages: u64) -> Result<Options, Trouble>
+/// How a command opens a database, with a seed drawn at random. What a transaction writes waits in
+/// memory for its end, up to three times the pages that are kept, `most` at most: a row takes
+/// about three times its event's text, and a page that goes to the log before is read and written
+/// again.
+fn options(rt: &HostRuntime, pages: u64, most: u64) -> Result<Options, Trouble>
+    requires { pages ≤ most }
     ensures memory { IfOk result (λ o. (o.cache_pages ≡ pages) × (pages ≤ o.spill_pages)) }
     ensures refused { IfErr result IsSystemTrouble }
     ensures opening { IfErr result IsOfOpening }
@@ -216,8 +221,9 @@ fn options(rt: &HostRuntime, pages: u64) -> Result<Options, Trouble>
         Err(error) => return Err(of_kind(error.kind())),
     };
     let mut options = Options::new(state.hash_one(&0u8));
+    let written = pages.saturating_mul(3).min(most);
     options.cache_pages = pages as usize;
-    options.spill_pages = options.spill_pages.max(pages as usize);
+    options.spill_pages = options.spill_pages.max(written as usize);
     Ok(options)
 }
 

@@ -28,6 +28,15 @@ use sqlite_store::FileStore;
 use std::alloc::Global;
 use std::io::{Read, Write};
 
+/// How many bytes the texts of events have that are to be added to a database.
+fn bytes_in(events: &Batch) -> u64 {
+    let mut bytes = 0u64;
+    for i in 0..events.len() {
+        bytes = bytes.saturating_add(events.at(i).event().text().len() as u64);
+    }
+    bytes
+}
+
 impl<'a> Databases for Opener<'a> {
     fn take<W: Watch>(
         &self,
@@ -36,8 +45,7 @@ impl<'a> Databases for Opener<'a> {
         events: &Batch,
         watch: &W,
     ) -> Result<Text, CommandFault> {
-        // A row has some 100 bytes beside the event's text, and the index half a row.
-        let growth = events.len().saturating_mul(512);
+        let growth = bytes_in(events);
         carry_out(alloc, self.open(name, growth), TakeEvents { events, watch })
     }
 

@@ -41,6 +41,8 @@ pub fn take<S: Shelf, F: EventReader, D: Databases, W: Watch>(
     match read_pieces(alloc, shelf, files, has_lines) {
         Ok(Pieces { texts, places }) => match events_of(alloc, reader, texts.as_slice()) {
             Ok(events) => {
+                // The texts are as large as the events, and aren't wanted any more.
+                drop(texts);
                 let answer = databases.take(alloc, db, &events, watch);
                 mem::forget(events);
                 match answer {
