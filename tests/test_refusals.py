@@ -76,6 +76,16 @@ def foreign(room: str) -> None:
 # The covers of two parts, the first of which has a gap, a conflict and a day, beside their answers.
 COVERS = ["--cover", "one.cover", "--cover", "other.cover"]
 
+# What is refused of answers: a source that stands in two parts, a text that is no cover or no answer, covers too many, and a sum.
+REFUSED_PARTS = [
+    ["cover", "one.cover", "one.cover"],
+    [*COVERS, "latest", "one.latest", "one.latest"],
+    ["cover", "one.cover", "one.kinds"],
+    [*COVERS, "kinds", "one.kinds", "other.latest"],
+    [*COVERS, "gaps", "one.gaps"],
+    [*COVERS, "kinds", "most.kinds", "other.kinds"],
+]
+
 
 def answers_of_parts(room: str) -> None:
     """Writes what two parts of a region answer."""
@@ -97,6 +107,7 @@ def answers_of_parts(room: str) -> None:
         "other.kinds": ['["t.a",1]'],
         "other.days": [f'["t.a","{AT[:10]}",1]'],
         "other.conflicts": [],
+        "most.kinds": ['["t.a",18446744073709551615]'],
     }
     for name, lines in answers.items():
         with open(f"{room}/{name}", "w", encoding="utf-8") as it:
@@ -131,8 +142,7 @@ ROWS_OF_ALL = [
     Row(["part", "--of", "2", "--into", "p", "asked.json"], [], ["shown", "p0.json", "p1.json"]),
     *[Row(["combine", it, f"one.{it}", f"other.{it}"], [answers_of_parts]) for it in ("cover", "shown")],
     *[Row(["combine", *COVERS, it, f"one.{it}", f"other.{it}"], [answers_of_parts]) for it in ("gaps", "latest", "kinds", "days", "conflicts")],
-    Row(["combine", "cover", "one.cover", "one.cover"], [answers_of_parts]),
-    Row(["combine", *COVERS, "latest", "one.latest", "one.latest"], [answers_of_parts]),
+    *[Row(["combine", *it], [answers_of_parts]) for it in REFUSED_PARTS],
     Row(["check", "asked.json"]),
     Row(["check", "faulty.json", "asked.json"]),
     *[Row([it, "--lines", "lines"]) for it in ("cover", "shown")],
