@@ -187,27 +187,29 @@ static void try_arguments(jumbetai_site *site) {
     IS(is_text(&text, ""), 1);
 }
 
-#define SUMMARY(source, digest)                                                                    \
-    "{\"blocks\":{\"" source "\":[[0,\"" digest "\"]]},\"sources\":{\"" source                     \
-    "\":[[1,1]]},\"version\":2}\n"
-/* The SHA-256 of no bytes: a summary of version 2 is taken as it is. */
-#define DIGEST "e3b0c44298fc1c149afbf4c8996fb92427ae41e4649b934ca495991b7852b855"
+#define SUMMARY(blocks, sources)                                                                   \
+    "{\"blocks\":{" blocks "},\"sources\":{" sources "},\"version\":2}\n"
+/* A digest of no block: a summary of version 2 is taken as it is. */
+#define DIGEST(block, digit)                                                                       \
+    "[" block ",\"000000000000000000000000000000000000000000000000000000000000000" digit "\"]"
+#define BLOCKS_A "\"/a\":[" DIGEST("0", "2") "," DIGEST("1", "3") "]"
+#define BLOCKS_B "\"/b\":[" DIGEST("0", "1") "]"
+#define NUMBERS_A "\"/a\":[[5,1025]]"
+#define NUMBERS_B "\"/b\":[[1,2]]"
 
 static void try_summaries(jumbetai_site *site) {
-    static const char a[] = SUMMARY("/a", DIGEST), b[] = SUMMARY("/b", DIGEST);
-    static const char first[] = COVER("/a", "[[1,1]]"), none[] = "\xff";
-    jumbetai_body one[] = {body(b), body(a)}, same[] = {body(a), body(b), body(a)};
-    jumbetai_body cover[] = {body(a), body(first)}, odd[] = {body(none), body(a)};
+    static const char a[] = SUMMARY(BLOCKS_A, NUMBERS_A), b[] = SUMMARY(BLOCKS_B, NUMBERS_B);
+    static const char empty[] = SUMMARY("", ""), first[] = COVER("/a", "[[1,3]]"), none[] = "\xff";
+    jumbetai_body one[] = {body(b), body(empty), body(a)}, same[] = {body(a), body(b), body(a)};
+    jumbetai_body cover[] = {body(b), body(first)}, odd[] = {body(none), body(a)};
     jumbetai_body wrong = {NULL, 1};
     jumbetai_parts parts = {9, 9};
     jumbetai_text text;
-    IS(jumbetai_combine_summaries(site, one, 2, &parts, &text), JUMBETAI_DONE);
+    IS(jumbetai_combine_summaries(site, one, 3, &parts, &text), JUMBETAI_DONE);
     IS(parts.first + parts.second, 0);
-    IS(is_text(&text, "{\"blocks\":{\"/a\":[[0,\"" DIGEST "\"]],\"/b\":[[0,\"" DIGEST
-                      "\"]]},\"sources\":{\"/a\":[[1,1]],\"/b\":[[1,1]]},\"version\":2}\n"),
-       1);
+    IS(is_text(&text, SUMMARY(BLOCKS_A "," BLOCKS_B, NUMBERS_A "," NUMBERS_B)), 1);
     IS(jumbetai_combine_summaries(site, NULL, 0, NULL, &text), JUMBETAI_DONE);
-    IS(is_text(&text, "{\"blocks\":{},\"sources\":{},\"version\":2}\n"), 1);
+    IS(is_text(&text, empty), 1);
     IS(jumbetai_combine_summaries(site, same, 3, &parts, &text), JUMBETAI_OVERLAP);
     IS(parts.first, 0);
     IS(parts.second, 2);

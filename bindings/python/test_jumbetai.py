@@ -1223,6 +1223,7 @@ class Parts(unittest.TestCase):
         a, b = ('{"sources":{"/%s":[[1,1]]},"version":1}\n' % it for it in "ab")
         self.assertEqual(combine("kinds", [one, one.encode()], [a, b]), b'["t",2]\n')
         self.assertEqual(combine("shown", []), b"")
+        self.assertEqual(combine("cover", []), b'{"sources":{},"version":1}\n')
         for status, parts, answers, covers in (
             (Status.NOT_AN_ANSWER, (1, 0), [one, "x"], [a, b]),
             (Status.NOT_AN_ANSWER, (0, 0), [b"\xff", one], [a, b]),
@@ -1237,6 +1238,21 @@ class Parts(unittest.TestCase):
         self.refused(Status.OVERLAP, (1, 2), combine, "cover", [a, b, b])
         with self.assertRaises(ValueError):
             combine("all", [])
+
+    def test_the_summary_of_a_whole(self):
+        # Each source with the numbers and the digests that its part tells.
+        first, second, third = ('[%d,"%064x"]' % it for it in ((0, 1), (0, 2), (1, 3)))
+        text = '{"blocks":{%s},"sources":{%s},"version":2}\n'
+        a = text % ('"/a":[%s,%s]' % (second, third), '"/a":[[5,1025]]')
+        b = text % ('"/b":[%s]' % first, '"/b":[[1,2]]')
+        both = text % ('"/a":[%s,%s],"/b":[%s]' % (second, third, first), '"/a":[[5,1025]],"/b":[[1,2]]')
+        self.assertEqual(combine_summaries([b, text % ("", ""), a]), both.encode())
+        self.assertEqual(combine_summaries([a]), a.encode())
+        # Refused are a source that stands in two parts, and a text that is no summary of version 2.
+        self.refused(Status.OVERLAP, (0, 2), combine_summaries, [a, b, a])
+        cover = '{"sources":{"/a":[[1,3]]},"version":1}\n'
+        self.refused(Status.NOT_AN_ANSWER, (1, 0), combine_summaries, [b, cover])
+        self.refused(Status.NOT_AN_ANSWER, (0, 0), combine_summaries, ["{}\n"])
 
     def test_what_is_no_summary_of_a_whole(self):
         digest = hashlib.sha256(b"").hexdigest()
