@@ -1,8 +1,7 @@
 //! Calls on events, their attributes and data, times and sequence numbers, texts of events, sets of
-//! numbers, summaries, inboxes, the digests of blocks, questions about an inbox, and parts.
+//! numbers, summaries, inboxes, the digests of blocks, and questions about an inbox.
 
 mod digests;
-mod divisions;
 mod inboxes;
 mod members;
 mod numbers;
@@ -151,11 +150,6 @@ fn call(alloc: Global, values: &mut Values, word: &str, words: &[&str], said: &m
         ("ask", _) => inboxes::ask(alloc, &values.inboxes, words, &mut said.text),
         ("day", _) => inboxes::day(alloc, &values.inboxes, words, &mut said.text),
         ("conflict", _) => inboxes::conflict(alloc, words, &mut said.text),
-        ("part", _) => divisions::part(words, &mut said.text),
-        ("split", _) => divisions::split(alloc, &values.events, words, &mut said.text),
-        ("combine", _) | ("summaries", _) => divisions::covers(alloc, word, words, &mut said.text),
-        ("whole", _) => divisions::whole(alloc, words, &mut said.text),
-        ("divide", _) => divisions::divide(alloc, &values.inboxes, words, &mut said.text),
         ("all", _) | ("best", _) | ("size", _) | ("came", _) | ("rivals", _) => {
             inboxes::tell(&values.inboxes, word, words, &mut said.text)
         }
