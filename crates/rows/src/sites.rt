@@ -55,7 +55,7 @@ fn of_schedule(
             words,
             &mut said.text,
         ),
-        "run" | "begin" => schedules::run_it(
+        "run" | "tell" | "begin" => schedules::run_it(
             alloc,
             &values.schedules,
             &values.events,

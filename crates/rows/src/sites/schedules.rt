@@ -1,7 +1,7 @@
 //! Schedules among sites.
 
 use crate::events::fill;
-use crate::said::{Said, line, number, truth};
+use crate::said::{Said, batch, line, lines, number, truth};
 use crate::shelf::Shelf;
 use crate::sites::calls::covers;
 use crate::words::number_of;
@@ -9,6 +9,7 @@ use attributes::{Batch, Sequenced, Text};
 use exchange::{Step, Steps, Stop, World, run};
 use site::Site;
 use std::alloc::Global;
+use views::Query;
 
 /// So many sites, and the words of the steps that they are to make.
 #[derive(Drop)]
@@ -181,8 +182,25 @@ fn stopped(out: &mut String, world: &World, done: u64, part: u64) -> bool {
     true
 }
 
-/// Adds how a site of a world stands, and what it covers.
-fn tell(out: &mut String, world: &World, i: u64) -> bool {
+/// Adds the events of a site of a world as they came, 100 at most, how many of its arrivals outlast a
+/// restart, and what is shown, in conflict and covered.
+fn answer(out: &mut String, world: &World, i: u64) -> bool {
+    if i >= world.sites() {
+        return false;
+    }
+    let (site, kept) = (world.site(i), world.kept(i));
+    batch(out, site.arrivals_after(0, 100))
+        && write!(out, "kept {kept}\n").is_ok()
+        && lines(out, site.lines(Query::Shown))
+        && lines(out, site.lines(Query::Conflicts))
+        && lines(out, site.lines(Query::Cover))
+}
+
+/// Adds how a site of a world stands and what it covers, or its events and answers.
+fn tell(out: &mut String, world: &World, word: &str, i: u64) -> bool {
+    if word == "tell" {
+        return answer(out, world, i);
+    }
     stands(out, world, i)
         && out.push(' ').is_ok()
         && i < world.sites()
@@ -190,9 +208,9 @@ fn tell(out: &mut String, world: &World, i: u64) -> bool {
 }
 
 /// Adds how each site of a world stands.
-fn tell_all(out: &mut String, world: &World) -> bool {
+fn tell_all(out: &mut String, world: &World, word: &str) -> bool {
     for i in 0..world.sites() {
-        if !tell(out, world, i) {
+        if !tell(out, world, word, i) {
             return false;
         }
     }
@@ -205,7 +223,7 @@ fn run_apart(alloc: Global, world: &mut World, sites: u32, steps: &Steps, said: 
         return line(&mut said.text, "no such site");
     }
     match world.run(alloc, steps) {
-        Ok(()) => tell_all(&mut said.text, world),
+        Ok(()) => tell_all(&mut said.text, world, "begin"),
         Err(Stop { done, part }) => {
             let _is_told = stopped(&mut said.left, world, done, part);
             false
@@ -214,12 +232,12 @@ fn run_apart(alloc: Global, world: &mut World, sites: u32, steps: &Steps, said: 
 }
 
 /// Runs steps, which makes their sites.
-fn run_whole(alloc: Global, sites: u32, steps: &Steps, said: &mut Said) -> bool {
+fn run_whole(alloc: Global, word: &str, sites: u32, steps: &Steps, said: &mut Said) -> bool {
     if !steps.fits(sites) {
         return line(&mut said.text, "no such site");
     }
     match run(alloc, sites, steps) {
-        Ok(world) => tell_all(&mut said.text, &world),
+        Ok(world) => tell_all(&mut said.text, &world, word),
         Err(short) => {
             let _is_told = stopped(&mut said.left, &short.world, short.done, short.part);
             false
@@ -229,8 +247,8 @@ fn run_whole(alloc: Global, sites: u32, steps: &Steps, said: &mut Said) -> bool 
 
 /// Runs steps, with the sites made by the run or before it.
 fn run_them(alloc: Global, word: &str, sites: u32, steps: &Steps, said: &mut Said) -> bool {
-    if word == "run" {
-        return run_whole(alloc, sites, steps, said);
+    if word != "begin" {
+        return run_whole(alloc, word, sites, steps, said);
     }
     match World::begin(alloc, sites) {
         Ok(mut world) => run_apart(alloc, &mut world, sites, steps, said),
@@ -238,8 +256,9 @@ fn run_them(alloc: Global, word: &str, sites: u32, steps: &Steps, said: &mut Sai
     }
 }
 
-/// `run|begin NAME [flush|restart SITE AFTER]..`: how each site stands after the steps, and after
-/// those between them; by `begin` the sites are made before the run.
+/// `run|tell|begin NAME [flush|restart SITE AFTER]..`: how each site stands after the steps, and after
+/// those between them; by `tell` with its events and answers; by `begin` the sites are made before the
+/// run.
 pub fn run_it(
     alloc: Global,
     all: &Shelf<Schedule>,
