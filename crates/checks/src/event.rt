@@ -44,7 +44,7 @@ fn built(parts: Parts) -> Option<Sequenced> {
 }
 
 /// The event of a row.
-pub fn event(alloc: Global, row: Row<'_>) -> Option<Sequenced> {
+fn event(alloc: Global, row: Row<'_>) -> Option<Sequenced> {
     let mut parts = Parts::empty(alloc);
     if set_row(alloc, &mut parts, row).is_ok() {
         built(parts)

@@ -3,9 +3,8 @@
 
 use crate::event::add;
 use crate::taking::{counts, take_all, then};
-use crate::worlds::world_of;
 use attributes::Batch;
-use exchange::{Step, Steps, gossip};
+use exchange::{Step, Steps, World, gossip, run};
 use site::Site;
 use std::alloc::Global;
 
@@ -62,6 +61,15 @@ fn a_giver_of_three_thousand_is_heard(rt: HostRuntime) {
 fn then_rows(alloc: Global, steps: &mut Steps, count: u64) -> bool {
     let mut batch = Batch::empty(alloc);
     add_rows(alloc, &mut batch, 1, count) && then(steps, Step::Deliver { site: 0, batch })
+}
+
+/// The world of so many sites after the steps.
+fn world_of(alloc: Global, sites: u32, steps: &Steps) -> Option<World> {
+    if steps.fits(sites) {
+        run(alloc, sites, steps).ok()
+    } else {
+        None
+    }
 }
 
 /// Whether a delivery of so many events brings them all.
