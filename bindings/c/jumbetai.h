@@ -358,7 +358,9 @@ void jumbetai_free(jumbetai_text *text);
 
 /* Which error of the system stands behind the last call of this thread that opened, took, wrote or
  * read rows, where that was JUMBETAI_STORE or JUMBETAI_SYSTEM: its number in <errno.h>, as ENOSPC
- * of a full disk, or EIO of one that fails; 0 where the system refused nothing. */
+ * of a full disk, or EIO of one that fails; 0 where the system refused nothing. JUMBETAI_STORE and
+ * 0 say that a page isn't what was written, or that others wrote in the file: open it anew, which
+ * tells which. */
 int jumbetai_why(void);
 
 /* A status in words, which are never to be given back. */

@@ -700,6 +700,24 @@ class Files(unittest.TestCase):
         with Site(self.file) as site:
             self.assertEqual(said(site), before)
 
+    def test_a_file_that_was_damaged_meanwhile_takes_nothing(self):
+        # The system refuses nothing: that a page isn't what was written is told by opening anew. Events that come before
+        # all others in key order want the first page of the index, which the cache doesn't keep.
+        with Site(self.file) as site:
+            site.take(batch([event(it, id=f"b{it}", subject="x" * 600) for it in range(251, 4000)]))
+        with Site(self.file, cache_mib=1) as site:
+            before = said(site)
+            with open(self.file, "r+b") as out:
+                out.seek(4096)
+                out.write(b"U" * (os.path.getsize(self.file) - 4096))
+            with self.assertRaises(Error) as caught:
+                site.take(batch([event(it, id=f"a{it}") for it in range(4000, 5000)]))
+            self.assertEqual((caught.exception.status, caught.exception.errno), (Status.STORE, 0))
+            self.assertEqual(said(site), before)
+        with self.assertRaises(Error) as caught:
+            Site(self.file)
+        self.assertEqual(caught.exception.status, Status.DAMAGED)
+
     @unittest.skipUnless(os.environ.get("JUMBETAI_FULL"), "JUMBETAI_FULL names no folder on a small file system")
     def test_a_full_disk_takes_none_of_the_bodies(self):
         file, ballast = (os.path.join(os.environ["JUMBETAI_FULL"], it) for it in ("python.db", "ballast"))

@@ -712,7 +712,8 @@ pub fn test(bytes: &[u8]) -> Result<u64, Error> {
 
 /// Which error of the system stands behind the last call of this thread that opened, took, wrote or
 /// read rows, where that was [`Error::Store`] or [`Error::System`]: that of a full disk, or of one that
-/// fails. None where the system refused nothing.
+/// fails. None where the system refused nothing: [`Error::Store`] says then that a page isn't what was
+/// written, or that others wrote in the file. Opened anew, it tells which.
 pub fn why() -> Option<std::io::Error> {
     // SAFETY: the call asks for nothing.
     match unsafe { ffi::jumbetai_why() } {
