@@ -6,16 +6,101 @@ ghost use Rattle.command_words.specs.Commands.{covers_rule, default_rule, files_
 use clap::{Arg, ArgAction};
 use std::alloc::Global;
 
+/// `--NAME VALUE` of the command line.
+fn option<'a>(alloc: Global, name: &'a str, value: &'a str, help: &'a str) -> Arg<'a>
+    ensures rule { rule_of result ≡ option_rule name.now }
+    ensures local { result.global ≡ false }
+{
+    Arg::new(alloc, name)
+        .long(name)
+        .value_name(value)
+        .help(help)
+}
+
+/// `--NAME VALUE` of the command line, required.
+fn needed<'a>(alloc: Global, name: &'a str, value: &'a str, help: &'a str) -> Arg<'a>
+    ensures rule { rule_of result ≡ needed_rule name.now }
+    ensures local { result.global ≡ false }
+{
+    Arg::new(alloc, name)
+        .long(name)
+        .value_name(value)
+        .help(help)
+        .required(true)
+}
+
+/// `--NAME VALUE` of the command line, with this value where it isn't given.
+fn with_default<'a>(
+    alloc: Global,
+    name: &'a str,
+    value: &'a str,
+    default: &'a str,
+    help: &'a str,
+) -> Arg<'a>
+    ensures rule { rule_of result ≡ default_rule name.now default.now }
+    ensures local { result.global ≡ false }
+{
+    Arg::new(alloc, name)
+        .long(name)
+        .value_name(value)
+        .help(help)
+        .default_value(default)
+}
+
+/// `--NAME` of the command line.
+fn flag<'a>(alloc: Global, name: &'a str, help: &'a str) -> Arg<'a>
+    ensures rule { rule_of result ≡ flag_rule name.now }
+    ensures local { result.global ≡ false }
+{
+    Arg::new(alloc, name)
+        .long(name)
+        .help(help)
+        .action(ArgAction::SetTrue)
+}
+
+/// A word of the command line at its place, required.
+fn place<'a>(alloc: Global, name: &'a str, value: &'a str, help: &'a str) -> Arg<'a>
+    ensures rule { rule_of result ≡ place_rule name.now }
+    ensures local { result.global ≡ false }
+{
+    Arg::new(alloc, name)
+        .value_name(value)
+        .help(help)
+        .required(true)
+}
+
 /// `FILE..` of the command line, one or more.
-pub fn files<'a>(alloc: Global) -> Arg<'a>
+fn some_files<'a>(alloc: Global, help: &'a str) -> Arg<'a>
     ensures rule { rule_of result ≡ files_rule }
     ensures local { result.global ≡ false }
 {
     Arg::new(alloc, "file")
         .value_name("FILE")
-        .help("Files of CloudEvents in JSON, an event or a batch each; - is standard input")
+        .help(help)
         .action(ArgAction::Append)
         .required(true)
+}
+
+/// `FILE..` of the command line, or none.
+fn any_files<'a>(alloc: Global, help: &'a str) -> Arg<'a>
+    ensures rule { rule_of result ≡ question_files_rule }
+    ensures local { result.global ≡ false }
+{
+    Arg::new(alloc, "file")
+        .value_name("FILE")
+        .help(help)
+        .action(ArgAction::Append)
+}
+
+/// `FILE..` of the command line, one or more.
+pub fn files<'a>(alloc: Global) -> Arg<'a>
+    ensures rule { rule_of result ≡ files_rule }
+    ensures local { result.global ≡ false }
+{
+    some_files(
+        alloc,
+        "Files of CloudEvents in JSON, an event or a batch each; - is standard input",
+    )
 }
 
 /// `FILE..` of the command line, one or more, whose events all have numbers.
@@ -23,13 +108,10 @@ pub fn numbered_files<'a>(alloc: Global) -> Arg<'a>
     ensures rule { rule_of result ≡ files_rule }
     ensures local { result.global ≡ false }
 {
-    Arg::new(alloc, "file")
-        .value_name("FILE")
-        .help(
-            "Files of CloudEvents in JSON, each with a sequence of twenty digits, as 00000000000000000001; - is standard input",
-        )
-        .action(ArgAction::Append)
-        .required(true)
+    some_files(
+        alloc,
+        "Files of CloudEvents in JSON, each with a sequence of twenty digits, as 00000000000000000001; - is standard input",
+    )
 }
 
 /// `FILE..` of the command line, which a question over a database may have none of.
@@ -37,10 +119,10 @@ pub fn question_files<'a>(alloc: Global) -> Arg<'a>
     ensures rule { rule_of result ≡ question_files_rule }
     ensures local { result.global ≡ false }
 {
-    Arg::new(alloc, "file")
-        .value_name("FILE")
-        .help("Files of CloudEvents in JSON, an event or a batch each; - is standard input")
-        .action(ArgAction::Append)
+    any_files(
+        alloc,
+        "Files of CloudEvents in JSON, an event or a batch each; - is standard input",
+    )
 }
 
 /// `FILE` of the command line, standard input where it isn't given.
@@ -59,11 +141,12 @@ pub fn read_db<'a>(alloc: Global) -> Arg<'a>
     ensures rule { rule_of result ≡ needed_rule (codes "db") }
     ensures local { result.global ≡ false }
 {
-    Arg::new(alloc, "db")
-        .long("db")
-        .value_name("DB")
-        .help("The database file, cached up to 256 MiB or SITE_CACHE_MIB")
-        .required(true)
+    needed(
+        alloc,
+        "db",
+        "DB",
+        "The database file, cached up to 256 MiB or SITE_CACHE_MIB",
+    )
 }
 
 /// `--db DB` of the command line, of a question.
@@ -71,7 +154,10 @@ pub fn question_db<'a>(alloc: Global) -> Arg<'a>
     ensures rule { rule_of result ≡ option_rule (codes "db") }
     ensures local { result.global ≡ false }
 {
-    Arg::new(alloc, "db").long("db").value_name("DB").help(
+    option(
+        alloc,
+        "db",
+        "DB",
         "A database file, cached up to 256 MiB or SITE_CACHE_MIB, whose events are asked with those of the files",
     )
 }
@@ -81,7 +167,10 @@ pub fn checked_db<'a>(alloc: Global) -> Arg<'a>
     ensures rule { rule_of result ≡ option_rule (codes "db") }
     ensures local { result.global ≡ false }
 {
-    Arg::new(alloc, "db").long("db").value_name("DB").help(
+    option(
+        alloc,
+        "db",
+        "DB",
         "A database file, cached up to 256 MiB or SITE_CACHE_MIB, to be told what it is",
     )
 }
@@ -91,12 +180,10 @@ pub fn checked_files<'a>(alloc: Global) -> Arg<'a>
     ensures rule { rule_of result ≡ question_files_rule }
     ensures local { result.global ≡ false }
 {
-    Arg::new(alloc, "file")
-        .value_name("FILE")
-        .help(
-            "Files of CloudEvents in JSON, each with a sequence of twenty digits, as 00000000000000000001; - is standard input",
-        )
-        .action(ArgAction::Append)
+    any_files(
+        alloc,
+        "Files of CloudEvents in JSON, each with a sequence of twenty digits, as 00000000000000000001; - is standard input",
+    )
 }
 
 /// The argument `--numbers` of the command line.
@@ -104,10 +191,11 @@ pub fn for_number<'a>(alloc: Global) -> Arg<'a>
     ensures rule { rule_of result ≡ flag_rule (codes "numbers") }
     ensures local { result.global ≡ false }
 {
-    Arg::new(alloc, "numbers")
-        .long("numbers")
-        .help("Judge each file, or line, as number does, which gives events their sequence")
-        .action(ArgAction::SetTrue)
+    flag(
+        alloc,
+        "numbers",
+        "Judge each file, or line, as number does, which gives events their sequence",
+    )
 }
 
 /// The argument `--lines` of the command line.
@@ -115,10 +203,11 @@ pub fn by_line<'a>(alloc: Global) -> Arg<'a>
     ensures rule { rule_of result ≡ flag_rule (codes "lines") }
     ensures local { result.global ≡ false }
 {
-    Arg::new(alloc, "lines")
-        .long("lines")
-        .help("Each line of a file is an event or a batch; a line of white space is passed over")
-        .action(ArgAction::SetTrue)
+    flag(
+        alloc,
+        "lines",
+        "Each line of a file is an event or a batch; a line of white space is passed over",
+    )
 }
 
 /// The argument `--all` of the command line.
@@ -126,10 +215,11 @@ pub fn all<'a>(alloc: Global) -> Arg<'a>
     ensures rule { rule_of result ≡ flag_rule (codes "all") }
     ensures local { result.global ≡ false }
 {
-    Arg::new(alloc, "all")
-        .long("all")
-        .help("Every page, each as a line of its own, instead of one")
-        .action(ArgAction::SetTrue)
+    flag(
+        alloc,
+        "all",
+        "Every page, each as a line of its own, instead of one",
+    )
 }
 
 /// The argument `--db DB` of the command line.
@@ -137,11 +227,12 @@ pub fn db<'a>(alloc: Global) -> Arg<'a>
     ensures rule { rule_of result ≡ needed_rule (codes "db") }
     ensures local { result.global ≡ false }
 {
-    Arg::new(alloc, "db")
-        .long("db")
-        .value_name("DB")
-        .help("The database file, made where there is none, cached up to 256 MiB or SITE_CACHE_MIB")
-        .required(true)
+    needed(
+        alloc,
+        "db",
+        "DB",
+        "The database file, made where there is none, cached up to 256 MiB or SITE_CACHE_MIB",
+    )
 }
 
 /// `--db DB` of the command line, of a command that prints one page or all.
@@ -149,13 +240,12 @@ pub fn paged_db<'a>(alloc: Global) -> Arg<'a>
     ensures rule { rule_of result ≡ needed_rule (codes "db") }
     ensures local { result.global ≡ false }
 {
-    Arg::new(alloc, "db")
-        .long("db")
-        .value_name("DB")
-        .help(
-            "The database file, cached up to 256 MiB or SITE_CACHE_MIB; for one page it is made where there is none",
-        )
-        .required(true)
+    needed(
+        alloc,
+        "db",
+        "DB",
+        "The database file, cached up to 256 MiB or SITE_CACHE_MIB; for one page it is made where there is none",
+    )
 }
 
 /// The argument `--from N` of the command line.
@@ -163,11 +253,13 @@ pub fn from<'a>(alloc: Global) -> Arg<'a>
     ensures rule { rule_of result ≡ from_rule }
     ensures local { result.global ≡ false }
 {
-    Arg::new(alloc, "from")
-        .long("from")
-        .value_name("N")
-        .help("How many events to pass over: 100 for the second page")
-        .default_value("0")
+    with_default(
+        alloc,
+        "from",
+        "N",
+        "0",
+        "How many events to pass over: 100 for the second page",
+    )
 }
 
 /// The argument `SUMMARY` of the command line.
@@ -175,12 +267,12 @@ pub fn summary<'a>(alloc: Global) -> Arg<'a>
     ensures rule { rule_of result ≡ place_rule (codes "summary") }
     ensures local { result.global ≡ false }
 {
-    Arg::new(alloc, "summary")
-        .value_name("SUMMARY")
-        .help(
-            "A file with the other site's summary, as summary or cover prints it; - is standard input",
-        )
-        .required(true)
+    place(
+        alloc,
+        "summary",
+        "SUMMARY",
+        "A file with the other site's summary, as summary or cover prints it; - is standard input",
+    )
 }
 
 /// The argument `--peer FILE` of the command line.
@@ -188,10 +280,12 @@ pub fn peer<'a>(alloc: Global) -> Arg<'a>
     ensures rule { rule_of result ≡ option_rule (codes "peer") }
     ensures local { result.global ≡ false }
 {
-    Arg::new(alloc, "peer")
-        .long("peer")
-        .value_name("FILE")
-        .help("A file with another site's events; - is standard input")
+    option(
+        alloc,
+        "peer",
+        "FILE",
+        "A file with another site's events; - is standard input",
+    )
 }
 
 /// The argument `--source S` of the command line.
@@ -199,11 +293,13 @@ pub fn source<'a>(alloc: Global) -> Arg<'a>
     ensures rule { rule_of result ≡ default_rule (codes "source") (codes "/orders") }
     ensures local { result.global ≡ false }
 {
-    Arg::new(alloc, "source")
-        .long("source")
-        .value_name("S")
-        .help("The source of the service's events; a service that is there must have it")
-        .default_value("/orders")
+    with_default(
+        alloc,
+        "source",
+        "S",
+        "/orders",
+        "The source of the service's events; a service that is there must have it",
+    )
 }
 
 /// The argument `--base N` of the command line.
@@ -211,7 +307,10 @@ pub fn base<'a>(alloc: Global) -> Arg<'a>
     ensures rule { rule_of result ≡ option_rule (codes "base") }
     ensures local { result.global ≡ false }
 {
-    Arg::new(alloc, "base").long("base").value_name("N").help(
+    option(
+        alloc,
+        "base",
+        "N",
         "The number before the service's first row, 0 for a new one; a service that is there must have it",
     )
 }
@@ -221,11 +320,12 @@ pub fn at<'a>(alloc: Global) -> Arg<'a>
     ensures rule { rule_of result ≡ needed_rule (codes "at") }
     ensures local { result.global ≡ false }
 {
-    Arg::new(alloc, "at")
-        .long("at")
-        .value_name("TIME")
-        .help("When it was done, as RFC 3339 writes it: 2024-02-29T10:00:00Z")
-        .required(true)
+    needed(
+        alloc,
+        "at",
+        "TIME",
+        "When it was done, as RFC 3339 writes it: 2024-02-29T10:00:00Z",
+    )
 }
 
 /// The argument `ACTION` of the command line.
@@ -233,10 +333,12 @@ pub fn action<'a>(alloc: Global) -> Arg<'a>
     ensures rule { rule_of result ≡ place_rule (codes "action") }
     ensures local { result.global ≡ false }
 {
-    Arg::new(alloc, "action")
-        .value_name("ACTION")
-        .help("What is done with the order: place, ship or cancel")
-        .required(true)
+    place(
+        alloc,
+        "action",
+        "ACTION",
+        "What is done with the order: place, ship or cancel",
+    )
 }
 
 /// The argument `ORDER` of the command line.
@@ -244,10 +346,7 @@ pub fn order<'a>(alloc: Global) -> Arg<'a>
     ensures rule { rule_of result ≡ place_rule (codes "order") }
     ensures local { result.global ≡ false }
 {
-    Arg::new(alloc, "order")
-        .value_name("ORDER")
-        .help("The number of the order, from 1")
-        .required(true)
+    place(alloc, "order", "ORDER", "The number of the order, from 1")
 }
 
 /// The argument `--after N` of the command line.
@@ -255,11 +354,12 @@ pub fn after<'a>(alloc: Global) -> Arg<'a>
     ensures rule { rule_of result ≡ needed_rule (codes "after") }
     ensures local { result.global ≡ false }
 {
-    Arg::new(alloc, "after")
-        .long("after")
-        .value_name("N")
-        .help("The number of the last row that was sent, 0 for none")
-        .required(true)
+    needed(
+        alloc,
+        "after",
+        "N",
+        "The number of the last row that was sent, 0 for none",
+    )
 }
 
 /// `--after N` of the command line, of events that came.
@@ -267,11 +367,12 @@ pub fn arrived<'a>(alloc: Global) -> Arg<'a>
     ensures rule { rule_of result ≡ needed_rule (codes "after") }
     ensures local { result.global ≡ false }
 {
-    Arg::new(alloc, "after")
-        .long("after")
-        .value_name("N")
-        .help("How many events were read already: the number of the last one, 0 for none")
-        .required(true)
+    needed(
+        alloc,
+        "after",
+        "N",
+        "How many events were read already: the number of the last one, 0 for none",
+    )
 }
 
 /// The argument `--db NUMBERS` of the command line.
@@ -279,13 +380,12 @@ pub fn numbers_db<'a>(alloc: Global) -> Arg<'a>
     ensures rule { rule_of result ≡ needed_rule (codes "db") }
     ensures local { result.global ≡ false }
 {
-    Arg::new(alloc, "db")
-        .long("db")
-        .value_name("NUMBERS")
-        .help(
-            "The file of the numbers that were given, made where there is none, cached up to 256 MiB or SITE_CACHE_MIB; a source has one such file",
-        )
-        .required(true)
+    needed(
+        alloc,
+        "db",
+        "NUMBERS",
+        "The file of the numbers that were given, made where there is none, cached up to 256 MiB or SITE_CACHE_MIB; a source has one such file",
+    )
 }
 
 /// The argument `--aside NAME` of the command line.
@@ -293,12 +393,12 @@ pub fn aside<'a>(alloc: Global) -> Arg<'a>
     ensures rule { rule_of result ≡ option_rule (codes "aside") }
     ensures local { result.global ≡ false }
 {
-    Arg::new(alloc, "aside")
-        .long("aside")
-        .value_name("NAME")
-        .help(
-            "The attribute under which a sequence that an event has already is set aside; without it such an event is refused",
-        )
+    option(
+        alloc,
+        "aside",
+        "NAME",
+        "The attribute under which a sequence that an event has already is set aside; without it such an event is refused",
+    )
 }
 
 /// `--base N` of the command line, of numbers.
@@ -306,11 +406,13 @@ pub fn numbers_base<'a>(alloc: Global) -> Arg<'a>
     ensures rule { rule_of result ≡ default_rule (codes "base") (codes "0") }
     ensures local { result.global ≡ false }
 {
-    Arg::new(alloc, "base")
-        .long("base")
-        .value_name("N")
-        .help("The number before the first of each source; a file that is there must have it")
-        .default_value("0")
+    with_default(
+        alloc,
+        "base",
+        "N",
+        "0",
+        "The number before the first of each source; a file that is there must have it",
+    )
 }
 
 /// `--cover FILE` of the command line, one a part.
@@ -332,10 +434,12 @@ pub fn question<'a>(alloc: Global) -> Arg<'a>
     ensures rule { rule_of result ≡ place_rule (codes "question") }
     ensures local { result.global ≡ false }
 {
-    Arg::new(alloc, "question")
-        .value_name("QUESTION")
-        .help("What the parts were asked: cover, gaps, shown, latest, kinds, days or conflicts")
-        .required(true)
+    place(
+        alloc,
+        "question",
+        "QUESTION",
+        "What the parts were asked: cover, gaps, shown, latest, kinds, days or conflicts",
+    )
 }
 
 /// `FILE..` of the command line, of answers.
@@ -343,11 +447,10 @@ pub fn answers<'a>(alloc: Global) -> Arg<'a>
     ensures rule { rule_of result ≡ files_rule }
     ensures local { result.global ≡ false }
 {
-    Arg::new(alloc, "file")
-        .value_name("FILE")
-        .help("Files with the answers of the parts, one a part; - is standard input")
-        .action(ArgAction::Append)
-        .required(true)
+    some_files(
+        alloc,
+        "Files with the answers of the parts, one a part; - is standard input",
+    )
 }
 
 /// The argument `--of N` of the command line.
@@ -355,11 +458,7 @@ pub fn part_count<'a>(alloc: Global) -> Arg<'a>
     ensures rule { rule_of result ≡ needed_rule (codes "of") }
     ensures local { result.global ≡ false }
 {
-    Arg::new(alloc, "of")
-        .long("of")
-        .value_name("N")
-        .help("How many parts there are, 1 to 65536")
-        .required(true)
+    needed(alloc, "of", "N", "How many parts there are, 1 to 65536")
 }
 
 /// The argument `--part I` of the command line.
@@ -367,10 +466,12 @@ pub fn part<'a>(alloc: Global) -> Arg<'a>
     ensures rule { rule_of result ≡ option_rule (codes "part") }
     ensures local { result.global ≡ false }
 {
-    Arg::new(alloc, "part")
-        .long("part")
-        .value_name("I")
-        .help("The part whose events are printed as a batch, from 0")
+    option(
+        alloc,
+        "part",
+        "I",
+        "The part whose events are printed as a batch, from 0",
+    )
 }
 
 /// The argument `--into PREFIX` of the command line.
@@ -378,12 +479,12 @@ pub fn into<'a>(alloc: Global) -> Arg<'a>
     ensures rule { rule_of result ≡ option_rule (codes "into") }
     ensures local { result.global ≡ false }
 {
-    Arg::new(alloc, "into")
-        .long("into")
-        .value_name("PREFIX")
-        .help(
-            "Write each part's batch into a file of its own, PREFIX0.json and so on, and print how many events it has",
-        )
+    option(
+        alloc,
+        "into",
+        "PREFIX",
+        "Write each part's batch into a file of its own, PREFIX0.json and so on, and print how many events it has",
+    )
 }
 
 /// The argument `--wait SECONDS` of the command line.
@@ -391,9 +492,11 @@ pub fn wait<'a>(alloc: Global) -> Arg<'a>
     ensures rule { rule_of result ≡ wait_rule }
     ensures local { result.global ≡ false }
 {
-    Arg::new(alloc, "wait")
-        .long("wait")
-        .value_name("SECONDS")
-        .help("For how long to wait for a database that another process has open, at most 86400")
-        .default_value("0")
+    with_default(
+        alloc,
+        "wait",
+        "SECONDS",
+        "0",
+        "For how long to wait for a database that another process has open, at most 86400",
+    )
 }
