@@ -701,8 +701,8 @@ class Files(unittest.TestCase):
             self.assertEqual(said(site), before)
 
     def test_a_file_that_was_damaged_meanwhile_takes_nothing(self):
-        # The system refuses nothing: that a page isn't what was written is told by opening anew. Events that come before
-        # all others in key order want the first page of the index, which the cache doesn't keep.
+        # The system refuses nothing: that a page isn't what was written is told by opening anew. Events before all
+        # others in key order want the first page of the index, which the cache doesn't keep.
         with Site(self.file) as site:
             site.take(batch([event(it, id=f"b{it}", subject="x" * 600) for it in range(251, 4000)]))
         with Site(self.file, cache_mib=1) as site:

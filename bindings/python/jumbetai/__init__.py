@@ -183,8 +183,8 @@ class Error(Exception):
     """A call that isn't done: its status, one of Status where it is known, and that in words. Of Status.STORE and
     Status.SYSTEM `errno` is the error of the system behind it, as errno.ENOSPC of a full disk; else 0, and where the
     system refused nothing: Status.STORE says then that a page isn't what was written, or that others wrote in the file,
-    and opening anew tells which. Of `combine` `parts` tells which parts they are, counted from 0: the one whose text is none,
-    and 0, or the two in which a source stands; of Status.COVER_COUNT how many answers and covers there are. Of
+    and opening anew tells which. Of `combine` `parts` tells which parts they are, counted from 0: the one whose text is
+    none, and 0, or the two in which a source stands; of Status.COVER_COUNT how many answers and covers there are. Of
     `Numbers.number` `index` is that of the first event that isn't numbered, from 0, of Status.HAS_SEQUENCE,
     Status.TOO_LARGE and Status.FULL; else it is None."""
 
