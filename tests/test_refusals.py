@@ -114,6 +114,49 @@ def answers_of_parts(room: str) -> None:
             it.writelines(f"{line}\n" for line in lines)
 
 
+def deep(depth: int) -> list[Any]:
+    """So many arrays, each in another."""
+    return [deep(depth - 1)] if depth > 1 else []
+
+
+# An event of every kind of value but bytes, and members by which it is none, by their fault.
+VALUES = {**E1, "dataschema": "/s", "number": -1, "flag": True, "text": "", "none": None, "time": AT, "data": {"b": [1, "two", None], "a": {}}}
+ILL: dict[str, dict[str, Any]] = {
+    "SpecVersion": {"specversion": 1},
+    "Id": {"id": None},
+    "Source": {"source": ""},
+    "Kind": {"type": "\x7f"},
+    "Subject": {"subject": ""},
+    "Time": {"time": "2023-02-29T00:00:00Z"},
+    "ContentType": {"datacontenttype": False},
+    "Schema": {"dataschema": ""},
+    "ExtensionName": {"Bad": "b"},
+    "ExtensionValue": {"number": 2147483648},
+    "TwoData": {"data_base64": "AQI="},
+    "Base64": {"data": None, "data_base64": "A*I="},
+    "DataNumber": {"data": {"p": [1.5]}},
+    "TooDeep": {"data": deep(121)},
+    "TooLarge": {"text": "x" * 262_144},
+}
+# Batches and texts that are read, or refused as a whole.
+TEXTS: dict[str, Any] = {
+    "well": [VALUES, {**VALUES, "data": None, "data_base64": "AQI="}, {**VALUES, "data": deep(120)}],
+    "lone": VALUES,
+    "second": [E1, 5],
+    "deeper": {**VALUES, "data": deep(127)},
+    "null": None,
+}
+
+
+def texts(room: str) -> None:
+    """Writes them, and an event of each fault."""
+    for name, value in {**TEXTS, **{name: {**VALUES, **it} for name, it in ILL.items()}}.items():
+        with open(f"{room}/{name}.json", "w", encoding="utf-8") as it:
+            json.dump(value, it, separators=(",", ":"))
+    with open(f"{room}/cut.json", "w", encoding="utf-8") as it:
+        it.write("[5")
+
+
 # What is said of lines that are there.
 ACKNOWLEDGED = b"".join(b'{"line":%d,"new":0,"repeated":%d}\n' % it for it in ((1, 1), (2, 1), (3, 2)))
 
@@ -147,6 +190,9 @@ ROWS_OF_ALL = [
     Row(["check", "faulty.json", "asked.json"]),
     *[Row([it, "--lines", "lines"]) for it in ("cover", "shown")],
     Row(["check", "--lines", "bare", "lines"]),
+    *[Row(["check", "--numbers", *it]) for it in (["--lines", "bare"], ["faulty.json"])],
+    Row(["check", "cut.json", "null.json"], [texts]),
+    *[Row(["cover", f"{it}.json"], [texts]) for it in (*TEXTS, *ILL, "cut")],
     Row(["check", "--db", "s.db", "faulty.json"], THREE),
     Row(["check", "--db", "o.db"], PLACED),
     Row(["check", "--db", "none.db"]),
