@@ -1,4 +1,4 @@
-//! Calls on events, their attributes and data, times and sequence numbers, texts of events, sets of
+//! Calls on events, their attributes and data, times and sequence numbers, members at fault, sets of
 //! numbers, summaries, inboxes, the digests of blocks, and questions about an inbox.
 
 mod digests;
@@ -9,7 +9,6 @@ mod offers;
 mod readers;
 mod scalars;
 mod summaries;
-mod texts;
 
 use crate::events;
 use crate::said::Said;
@@ -107,7 +106,7 @@ fn of_summary(
         ("again", _) => summaries::again(alloc, &values.summaries, words, out),
         ("alike", _) | ("covers", _) => summaries::compare(&values.summaries, word, words, out),
         ("faults", []) => summaries::faults(out),
-        ("refusals", []) => texts::refusals(out),
+        ("refusals", []) => members::refusals(out),
         ("text", _) | ("version", _) | ("names", _) | ("of", _) | ("has", _) => {
             summaries::tell(&values.summaries, word, words, out)
         }
@@ -181,7 +180,7 @@ fn of_text(
         "members" => Some(members::members(alloc, text, out)),
         "hints" => Some(members::hints(alloc, text, out)),
         "bytes" => Some(scalars::bytes(alloc, text, out)),
-        _ => texts::call(alloc, word, text, out),
+        _ => None,
     }
 }
 

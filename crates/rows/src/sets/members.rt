@@ -1,7 +1,7 @@
-//! What is told of the members of an input that are at fault.
+//! What is told of the members of an input that are at fault, and of why events are not read.
 
 use crate::said::{line, lines};
-use attributes::Text;
+use attributes::{Fault, Text};
 use event_json::{Faulty, ReadFault, read_faulty};
 use fault_lines::fault_lines;
 use std::alloc::Global;
@@ -64,4 +64,23 @@ pub fn hints(alloc: Global, text: &str, out: &mut String) -> bool {
         }
         _ => false,
     }
+}
+
+/// Adds the number and the words of a refusal.
+fn add_refusal(out: &mut String, fault: ReadFault) -> bool {
+    let number = fault.number();
+    write!(out, "{number} {fault}\n").is_ok()
+}
+
+/// `refusals`: the number and the words of each refusal, and of an event at fault.
+pub fn refusals(out: &mut String) -> bool {
+    let event = ReadFault::BadEvent {
+        index: 7,
+        fault: Fault::TooLarge,
+    };
+    add_refusal(out, ReadFault::OutOfMemory)
+        && add_refusal(out, ReadFault::NotJson)
+        && add_refusal(out, ReadFault::NotEvent)
+        && add_refusal(out, event)
+        && add_refusal(out, ReadFault::InputTooLarge)
 }

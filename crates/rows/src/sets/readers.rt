@@ -1,9 +1,10 @@
 //! What events tell.
 
-use crate::said::line;
+use crate::said::{as_line, line};
 use crate::sets::offers::{add_fault, long_event};
 use crate::shelf::Shelf;
 use attributes::{Attribute, Batch, Event, Events, Fault, Payload, Sequenced};
+use event_json::write_event;
 use std::alloc::Global;
 use std::cmp::Ordering;
 
@@ -49,6 +50,7 @@ fn add_content(alloc: Global, out: &mut String, content: Payload<'_>) -> bool {
 fn add_own(alloc: Global, event: &Event, word: &str, out: &mut String) -> bool {
     match word {
         "canonical" => line(out, event.text()),
+        "written" => as_line(out, write_event(alloc, event)),
         "length" => {
             let len = event.text().len();
             write!(out, "{len}\n").is_ok()
@@ -64,7 +66,8 @@ fn add_own(alloc: Global, event: &Event, word: &str, out: &mut String) -> bool {
     }
 }
 
-/// `canonical|length|id|source|kind|subject|time|day-of|data NAME`: what an event tells by its readers.
+/// `canonical|written|length|id|source|kind|subject|time|day-of|data NAME`: what an event tells by its
+/// readers.
 pub fn own(alloc: Global, events: &Shelf<Event>, word: &str, name: &str, out: &mut String) -> bool {
     match events.get(name) {
         Some(event) => add_own(alloc, event, word, out),
