@@ -100,7 +100,7 @@ def crowd(tries: Tries, site: Site) -> None:
         for _ in range(60):
             files.enter_context(socket.create_connection(("127.0.0.1", site.port), timeout=5))
         began = time.monotonic()
-        tries.judge("where all places are taken", site.give(event(2)).status == 200 and time.monotonic() - began < 4, time.monotonic() - began)
+        tries.judge("where all places are taken", site.give(event(2)).status == 200 and time.monotonic() - began < 2.5, time.monotonic() - began)
 
 
 def test_crowds(tries: Tries) -> None:

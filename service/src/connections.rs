@@ -40,6 +40,8 @@ pub struct Door {
     service: Kind,
     http: Http,
     places: Arc<Semaphore>,
+    /// The last connection wasn't accepted, as where no descriptor is left.
+    is_shut: Arc<AtomicBool>,
     #[cfg(feature = "tls")]
     acceptor: Option<tokio_rustls::TlsAcceptor>,
 }
@@ -54,6 +56,7 @@ impl Door {
             #[cfg(feature = "tls")]
             acceptor: service.settings.tls.as_ref().map(crate::tls::acceptor).transpose()?,
             places: Arc::new(Semaphore::new(limits.connections)),
+            is_shut: Arc::default(),
             http,
             service,
         })
@@ -73,6 +76,7 @@ impl Door {
             };
             match accepted {
                 Ok((stream, from)) => {
+                    self.is_shut.store(false, Relaxed);
                     let door = self.clone();
                     tokio::spawn(async move {
                         let _place = place;
@@ -83,12 +87,12 @@ impl Door {
                     });
                 }
                 Err(why) => {
-                    // As where no descriptor is left: all places are taken then, so that idle connections give theirs up.
+                    // Idle connections give their descriptors up, until another one is accepted.
+                    self.is_shut.store(true, Relaxed);
                     if told.map_or(true, |it| it.elapsed() > TELL) {
                         tracing::warn!(%why, "no connection is accepted");
                         told = Some(Instant::now());
                     }
-                    let _all = self.places.try_acquire_many(self.places.available_permits() as u32);
                     tokio::time::sleep(LOOK / 10).await;
                 }
             }
@@ -144,7 +148,8 @@ impl Door {
                     connection.as_mut().graceful_shutdown();
                 }
                 _ = tokio::time::sleep(LOOK) => {
-                    let is_crowded = is_ending || seen.lingers.load(Relaxed) || self.places.available_permits() == 0;
+                    let is_full = self.is_shut.load(Relaxed) || self.places.available_permits() == 0;
+                    let is_crowded = is_ending || seen.lingers.load(Relaxed) || is_full;
                     if seen.idle() > if is_crowded { CROWDED.min(idle) } else { idle } {
                         return;
                     }
