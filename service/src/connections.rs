@@ -40,7 +40,7 @@ pub struct Door {
     service: Kind,
     http: Http,
     places: Arc<Semaphore>,
-    /// The last connection wasn't accepted, as where no descriptor is left.
+    /// A connection waits that wasn't accepted, as where no descriptor is left.
     is_shut: Arc<AtomicBool>,
     #[cfg(feature = "tls")]
     acceptor: Option<tokio_rustls::TlsAcceptor>,
@@ -73,6 +73,11 @@ impl Door {
             let (place, accepted) = tokio::select! {
                 next = next => next,
                 _ = ends.changed() => break,
+                // Whoever wasn't accepted has gone: nobody waits for a descriptor.
+                _ = tokio::time::sleep(2 * LOOK), if self.is_shut.load(Relaxed) => {
+                    self.is_shut.store(false, Relaxed);
+                    continue;
+                }
             };
             match accepted {
                 Ok((stream, from)) => {
@@ -87,7 +92,7 @@ impl Door {
                     });
                 }
                 Err(why) => {
-                    // Idle connections give their descriptors up, until another one is accepted.
+                    // Idle connections give their descriptors up, while another one waits.
                     self.is_shut.store(true, Relaxed);
                     if told.map_or(true, |it| it.elapsed() > TELL) {
                         tracing::warn!(%why, "no connection is accepted");

@@ -1,7 +1,7 @@
 //! What no contract says of sites, their exchange, their threads and workers, and of the crates that
 //! write tables, and no row can: that calls succeed with ample memory; that gates are asked, turns
-//! come and watches are told; contracts that a test states; that laws can be called. Only public calls
-//! are used, so that no library is proved a second time for its tests.
+//! come and watches are told; contracts that a test states; that laws can be called. Only public
+//! calls are used, so that no library is proved a second time for its tests.
 #![tactic(auto)]
 
 #[cfg(test)]

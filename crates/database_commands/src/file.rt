@@ -100,8 +100,8 @@ pub(crate) fn is_there(rt: &HostRuntime, name: &str) -> Result<(), Trouble>
 }
 
 /// Opens the database of that name, and makes its file where there is none. `growth` is about how
-/// many bytes will be added, for the size of the cache alone. A name that means no file to SQLite
-/// is `Store`: who knows it would look for their events in vain.
+/// many bytes of events will be added, for what is kept in memory alone. A name that means no file
+/// to SQLite is `Store`: who knows it would look for their events in vain.
 pub fn open(
     rt: &HostRuntime,
     name: &str,

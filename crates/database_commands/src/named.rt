@@ -57,7 +57,7 @@ pub(crate) fn performed<T: Start, C: Command + Drop, F: Drop>(
 }
 
 /// Gives a command to the database of that name, which is made where there is none. `growth` is
-/// about how many bytes it will add, for the size of the cache alone.
+/// about how many bytes of events it will add, for what is kept in memory alone.
 pub fn perform_named<T: Start, C: Command + Drop>(
     rt: &HostRuntime,
     alloc: Global,
