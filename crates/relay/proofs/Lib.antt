@@ -1,7 +1,3 @@
-pub mod FanLemmas
-pub mod LaneLemmas
 pub mod LastLemmas
 pub mod ReadLemmas
 pub mod RouteLemmas
-pub mod SlotLemmas
-pub mod WindowLemmas

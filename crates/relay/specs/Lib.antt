@@ -2,5 +2,3 @@ pub mod Route
 pub mod Relay
 pub mod Call
 pub mod Fault
-pub mod Fan
-pub mod steps

@@ -1,5 +1,5 @@
 -- What relays send.
-pub use Rattle.site.specs.Page.{max_page}
+pub use Rattle.paging.specs.Page.{max_page}
 use Rattle.std.specs.Prelude.{◌≡◌, ◌≢◌, ◌⊎◌, ℕ, List, [], ◌∷◌, length, Some, Option, MatchOption, refl}
 use Rattle.std.specs.Coded.{Coded, code_by, coded×, coded_ℕ, coded_list}
 use Rattle.sqlite.specs.Effect.{Database}

@@ -47,7 +47,7 @@ impl RelayFault {
 }
 
 /// The fault of a relay to a route whose service refused.
-pub(crate) fn fault_of(fault: OutboxFault) -> RelayFault
+pub fn fault_of(fault: OutboxFault) -> RelayFault
     ensures kind { (result ≡ OutOfMemory) ⊎ (result ≡ Store) }
     ensures exact { result ≡ of_outbox fault }
 {

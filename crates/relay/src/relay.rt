@@ -11,7 +11,7 @@ use crate::fault::{RelayFault, fault_of};
 use crate::route::Route;
 use attributes::Batch;
 use outbox::Service;
-use site::MAX_PAGE;
+use paging::MAX_PAGE;
 use sqlite::Alter;
 use std::marker::Model;
 

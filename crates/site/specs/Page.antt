@@ -1,9 +1,6 @@
 -- Pages of a list.
+pub use Rattle.paging.specs.Page.{max_page}
 use Rattle.std.specs.Prelude.{ℕ, List, drop, take}
-
--- the most events of a page that a site gives
-abbrev pub max_page : ℕ
-max_page = 100
 
 -- a page: the items at the places from `from` on, counted from 0, `limit` of them at most
 abbrev pub page : {X : Type 0} → List X → ℕ → ℕ → List X

@@ -10,4 +10,5 @@ mod site;
 pub use call::{Call, Command, Reply};
 pub use desk::{Desk, DeskFault};
 pub use gate::{Gate, GateShut, Wide};
-pub use site::{DeltaPart, Lent, MAX_PAGE, Mark, Site};
+pub use paging::MAX_PAGE;
+pub use site::{DeltaPart, Lent, Mark, Site};

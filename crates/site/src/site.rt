@@ -23,7 +23,6 @@ use inbox::Inbox;
 use kept_views::Views;
 pub use lent::Lent;
 pub use mark::Mark;
-pub use page::MAX_PAGE;
 use std::alloc::Global;
 use std::marker::Model;
 

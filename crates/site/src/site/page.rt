@@ -6,10 +6,8 @@ ghost use Rattle.site.specs.Page.{max_page, page};
 
 use super::Site;
 use attributes::Batch;
+use paging::MAX_PAGE;
 use std::alloc::AllocError;
-
-/// The most events of a page.
-pub const MAX_PAGE: u64 = 100;
 
 impl Site {
     /// A page of a site: the events at the places from `from` on in key order, `limit` of them at

@@ -1,8 +1,0 @@
-use Rattle.std.proofs.Common.{◌≡◌, ◌≤◌}
-use Rattle.relay.specs.Route.{AreIn}
-use Rattle.relay.specs.Fan.{AreSent, rows_between}
-use Rattle.relay.proofs.fan.lane.copied.Given as goal
-
-abbrev pub invariant-loop-i : goal.invariant-loop-i
-invariant-loop-i l = (AreSent 0 l.rows l.fn.from l.i l.page × AreIn l.page l.rows)
-    × ((l.page ≡ rows_between 0 l.rows l.fn.from l.i) × (l.fn.from ≤ l.i))

@@ -1,8 +1,0 @@
-use Rattle.std.proofs.Common.{◌≡◌, refl}
-use Rattle.relay.proofs.LaneLemmas.{carries_quiet}
-use Rattle.relay.proofs.fan.lane.stopped.Goals as goal
-
-pub returns-clause-carried : goal.returns-clause-carried
-returns-clause-carried g c start rows =
-    let gate = c.args.gate.now in
-    carries_quiet g.R.Route.accepted g.R.Route.takes g.R.Route.has_failed (g.G.Gate.lets gate) (g.G.Gate.shuts gate) (g.G.Gate.heard gate) start rows c.args.lane _ c.args.fault c.requires.going c.requires.quiet refl refl refl refl
