@@ -7,7 +7,7 @@ import tempfile
 from typing import Iterator, Optional
 
 import pytest
-from build import Plan
+from build import Plan, guess
 from copies import LOW, SMALL, Copy
 from shell import TOP
 
@@ -212,3 +212,8 @@ def test_source_below_the_archive_that_changed(archived: Built) -> None:
 )
 def test_processes(place: int, ready: int, wanted: int) -> None:
     assert Plan.processes(place, ready, 4) == wanted
+
+
+def test_guess() -> None:
+    """What has more lines is taken to last longer, and what stands higher."""
+    assert guess("paging", 1) < guess("paging", 2) < guess("attributes", 1)

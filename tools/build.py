@@ -264,18 +264,23 @@ def functions(name: str) -> int:
     return count
 
 
-def weight(name: str) -> tuple[float, bool]:
-    """The processor seconds that a crate took when it was last built, else a guess by its lines; and whether it is known."""
-    try:
-        with open(f"{TOP}/crates/{name}/out/build.seconds", encoding="ascii") as it:
-            return float(it.read()), True
-    except (OSError, ValueError):
-        pass
+def guess(name: str, depth: int) -> float:
+    """About how many processor seconds a crate takes: by its lines, its functions, and on how many crates it stands, one on
+    the other, since a check reads them all first."""
     lines = 0
     for file in sources(name):
         with open(file, encoding="utf-8", errors="replace") as it:
             lines += it.read().count("\n")
-    return 20 + lines / 20, False
+    return 10 + 8 * depth + lines / 33 + functions(name)
+
+
+def weight(name: str, depth: int) -> tuple[float, bool]:
+    """The processor seconds that a crate took when it was last built, else a guess; and whether it is known."""
+    try:
+        with open(f"{TOP}/crates/{name}/out/build.seconds", encoding="ascii") as it:
+            return float(it.read()), True
+    except (OSError, ValueError):
+        return guess(name, depth), False
 
 
 def minutes(seconds: float) -> str:
@@ -311,7 +316,10 @@ class Plan:
         self.names, self.crates, self.made = names, made.crates, made
         self.folders = {**made.folders(reached(self.crates, names)), **dict.fromkeys(names, BUILT)}
         self.sums = {it: made.sums.of(it) for it in names}
-        weights = {it: weight(it) for it in names}
+        depths: dict[str, int] = {}
+        for it in reached(self.crates, names):
+            depths[it] = 1 + max((depths[below] for below in self.crates[it][0]), default=0)
+        weights = {it: weight(it, depths[it]) for it in names}
         self.is_known = all(known for _, known in weights.values())
         self.weights = {it: seconds for it, (seconds, _) in weights.items()}
         self.functions = {it: functions(it) for it in names}
