@@ -5,4 +5,3 @@ mod RowLemmas
 mod ToldLemmas
 mod DescribedLemmas
 mod NamedLemmas
-mod RunLemmas

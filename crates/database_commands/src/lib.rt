@@ -12,7 +12,6 @@ mod named;
 mod numberers;
 mod opener;
 mod page;
-mod runs;
 mod service;
 mod stream;
 mod told;

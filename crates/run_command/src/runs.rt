@@ -35,4 +35,8 @@ pub trait Runs {
             (arrivals : List EventValue) × SaysRun jobs.feeds arrivals text) }
         ensures feed { IfErr result (IsFeedFault jobs.feeds) }
         ensures database { IfErr result IsNamedFault };
+
+    /// The same runs, whose database is tried again where another process has it open, for so many
+    /// seconds at most.
+    fn waiting(&self, seconds: u64) -> Self;
 }

@@ -1,13 +1,11 @@
 //! `site`: keeps CloudEvents of several regions in step, and answers questions about them.
 #![tactic(auto)]
 
-mod causes;
-mod status_line;
 mod system;
 
 use database_commands::Opener;
-use site_commands::exit;
-use status_line::StatusLine;
+use site_program::exit;
+use site_system::{FileRuns, StatusLine};
 use std::io::IsTerminal;
 use std::process::ExitCode;
 use system::{taken, words};
@@ -21,6 +19,7 @@ fn main(rt: HostRuntime) -> ExitCode {
     exit(
         &rt,
         &databases,
+        &FileRuns::over(databases),
         words(&rt),
         &mut out,
         &mut rt.stderr(),

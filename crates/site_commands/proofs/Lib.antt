@@ -1,13 +1,9 @@
 mod CheckLemmas
 mod CombineLemmas
 mod EndingLemmas
-mod FeedLemmas
 mod LineLemmas
 mod PartLemmas
 mod PieceLemmas
-mod RunLemmas
 mod SplitLemmas
-mod StreamLemmas
-mod WorkerLemmas
-mod NumberLemmas
+pub mod StreamLemmas
 mod RefusalLemmas

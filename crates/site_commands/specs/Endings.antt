@@ -6,12 +6,10 @@ use Rattle.std.specs.Io.KnownBytes.{Appends, Keeps}
 use Rattle.site_commands.specs.declared.ending.Ending.{Ending}
 use Rattle.site_commands.specs.declared.ending.Ending.TheVariants as ending
 use Rattle.command_words.specs.declared.request.Follow.{Follow}
-use Rattle.command_words.specs.declared.request.Number.{Number}
 use Rattle.event_files.specs.declared.input.Unread.{Unread}
 use Rattle.line_intake.specs.Written.{Wrote}
 use Rattle.site_commands.specs.Lines.{line_of, memory_line}
-use Rattle.site_commands.specs.Names.{Names, names_of_follow, of_number}
-use Rattle.site_commands.specs.Numbers.{NumbersFile, NumbersUnsaid, RefusesNumbers}
+use Rattle.site_commands.specs.Names.{Names, names_of_follow}
 use Rattle.site_commands.specs.Streams.{FollowsAll, FollowsPart, RefusesFollow}
 use Rattle.site_commands.specs.declared.line.Refusal.{Refusal}
 
@@ -71,15 +69,3 @@ EndsStream C U lines result out out' err err' =
     ⊎ (((refusal : Refusal) × RefusesFollow C U lines.file refusal out out'
     × SaysRefusal (names_of_follow lines) refusal result err err')
     ⊎ ((result ≡ 1) × FollowsPart C lines.file out out' × Keeps err err'))
-
--- how a stream of lines that are numbered ends: every line is answered and none refused, or it is
--- refused and the line of the refusal said behind what was said of lines, or a write failed, and
--- then nothing is said
-abbrev pub EndsNumbers : (List ℕ → List ℕ → Type 0) → (List ℕ → Unread → Type 0) → Number → ℕ
-    → Option (List ℕ) → Option (List ℕ) → Option (List ℕ) → Option (List ℕ) → Type 0
-EndsNumbers C U lines result out out' err err' =
-    ((result ≡ 0) × NumbersFile C lines out out' err err' 0)
-    ⊎ (((refusal : Refusal) × (mid : Option (List ℕ))
-    × RefusesNumbers C U lines refusal out out' err mid
-    × SaysRefusal (of_number lines) refusal result mid err')
-    ⊎ ((result ≡ 1) × NumbersUnsaid C lines out out' err err'))

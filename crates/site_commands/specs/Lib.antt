@@ -1,10 +1,8 @@
 pub mod Names
 pub mod Pieces
-pub mod Jobs
 pub mod Lines
 pub mod Inputs
 pub mod Streams
-pub mod Numbers
 pub mod Checks
 pub mod Parts
 pub mod Outputs
@@ -12,5 +10,5 @@ pub mod Splits
 pub mod Answers
 pub mod Printed
 pub mod Endings
-pub mod Runs
+pub mod Comes
 pub mod steps

@@ -1,5 +1,4 @@
 -- Words of private clauses alone: whoever reads what is promised needs none of them.
-pub mod Feeds
 pub mod Checks
 pub mod Combines
 pub mod Splits

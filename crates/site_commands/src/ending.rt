@@ -4,7 +4,7 @@ ghost use Rattle.std.specs.Io.KnownBytes.{Appends};
 ghost use Rattle.line_intake.specs.Written.{Wrote};
 ghost use Rattle.site_commands.specs.Endings.{Ends, EndsPages, GrowsBy, SaysRefusal, Writes};
 ghost use Rattle.site_commands.specs.Names.{lent};
-ghost use Rattle.site_commands.specs.Runs.{IsLine, IsToldBeside};
+ghost use Rattle.site_commands.specs.Comes.{IsLine, IsToldBeside};
 
 use crate::hint::Hint;
 use crate::line::{Refusal, line_of, made_lines};

@@ -1,34 +1,35 @@
-//! The commands of the program `site`, over any runtime, files, databases and writers: from the
-//! words after its name to what is written, and the exit status.
+//! The commands of the program `site`, over any files, databases and writers: what a part of the
+//! plan comes to, and how it is written.
 #![tactic(auto)]
 
-mod batches;
-mod check;
-mod combine;
-mod database;
+pub mod check;
+pub mod combine;
+pub mod database;
 mod ending;
 mod files;
 mod hint;
 mod line;
 mod look;
 mod names;
-mod number;
 mod outputs;
-mod part;
+pub mod part;
 mod pieces;
 mod printed;
 mod progress;
-mod query;
+pub mod query;
 mod refusal;
-mod run;
-mod split;
-mod stream;
-mod workers;
+pub mod split;
+pub mod stream;
 
-pub use ending::{Ending, Shown};
-pub use hint::Hint;
+pub use ending::{DONE, Ending, REFUSED, Shown, answered, finish, refused, say};
+pub use files::{Looks, Streams, SystemFiles};
+pub use hint::{Hint, hint_of};
 pub use line::Refusal;
-pub use pieces::{LineAt, RefusedLine};
+pub use names::Names;
+pub use outputs::SystemOutputs;
+pub use pieces::{
+    LineAt, Pieces, RefusedLine, first_line, is_blank, memory_refusal, pieces_of, refusal_at,
+};
+pub use printed::Printed;
 pub use progress::Progress;
 pub use refusal::what_can_be_numbered_is_quiet;
-pub use run::{exit, perform, perform_alone};

@@ -44,7 +44,7 @@ fn is_white(byte: u8) -> bool
 }
 
 /// Whether a line of a file has nothing but white space.
-pub(crate) fn is_blank(line: &[u8]) -> bool
+pub fn is_blank(line: &[u8]) -> bool
     ensures { result ≡ is_blank line.now }
 {
     line.iter().all(|byte| is_white(*byte))
@@ -58,7 +58,7 @@ fn line_end(text: &[u8]) -> Option<usize>
 }
 
 /// The first line of a file's text, and what stands behind its LF, where it has one.
-pub(crate) fn first_line(text: &[u8]) -> (&[u8], Option<&[u8]>)
+pub fn first_line(text: &[u8]) -> (&[u8], Option<&[u8]>)
     ensures lines { lines_of text.now
         ≡ result.0.now ∷ option_map_or (λ rest. lines_of rest.now) result.1 [] }
     ensures shorter { IfSome result.1 (λ rest. length rest.now < length text.now) }
@@ -136,7 +136,7 @@ fn file_lines(alloc: Global, contents: Vec<Octets>) -> Result<Pieces, AllocError
 }
 
 /// What is judged of these contents of files: the lines, or each as it is.
-pub(crate) fn pieces_of(
+pub fn pieces_of(
     alloc: Global,
     contents: Vec<Octets>,
     has_lines: bool,

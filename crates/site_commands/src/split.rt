@@ -4,7 +4,7 @@ ghost use Rattle.attributes.specs.Event.{EventValue};
 ghost use Rattle.parts.specs.Part.{IsCountOfParts};
 ghost use Rattle.views.specs.Line.{kind_lines};
 ghost use Rattle.site_commands.specs.Outputs.{GrewBy};
-ghost use Rattle.site_commands.specs.Runs.{IsSplitEnding};
+ghost use Rattle.site_commands.specs.Comes.{IsSplitEnding};
 ghost use Rattle.site_commands.specs.Splits.{EndsParts, file_of, part_counts, part_files, part_count_lines, part_name, unsaved_line};
 ghost use Rattle.site_commands.specs.steps.Splits.{AreAllParts, IsUnsavedEnding, RefusesFile, StopsParts};
 

@@ -98,7 +98,7 @@ fn end(ended: Result<u64, StreamFault>) -> StreamEnd
 
 /// How a command's stream ended that came to the end of its input, with so many lines at fault.
 #[tactic(auto, using(crate::proofs::StreamLemmas::end_of_some))]
-pub(crate) fn end_of(faults: u64) -> StreamEnd
+pub fn end_of(faults: u64) -> StreamEnd
     ensures { result ≡ end_of_stream faults }
 {
     if faults == 0 {
@@ -108,7 +108,7 @@ pub(crate) fn end_of(faults: u64) -> StreamEnd
 }
 
 /// A command's input that couldn't be read on, as a file that wasn't read.
-pub(crate) fn unread_of(why: LineFault) -> UnreadAt
+pub fn unread_of(why: LineFault) -> UnreadAt
     ensures { result ≡ unread_of why }
 {
     match why {

@@ -1,0 +1,4 @@
+mod FeedLemmas
+mod NumberLemmas
+mod RunLemmas
+mod WorkerLemmas
