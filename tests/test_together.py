@@ -4,11 +4,13 @@ nothing in it.
 A file has one process at a time; to each other one it is `Store`, as to one that asks while another program of SQLite has it.
 The way out is to try again, or `flock` of util-linux.
 """
+import contextlib
 import json
 import os
 import random
 import shutil
 import signal
+import sqlite3
 import subprocess
 import time
 from concurrent.futures import ThreadPoolExecutor
@@ -407,4 +409,30 @@ test_file_of_another_program = rows(
     held("an order", place("held.db", 1)),
     answers("nothing came in between", "site scrub --db held.db", page(*three("s0"))),
     answers("a take, once it is given free", "site take --db held.db t1.json", TAKEN.out),
+)
+
+
+def freed(what: str, typed: str, out: str, refused: bool = False) -> Row:
+    """A row of a line that begins while another program writes to the file, which that lets go of half a second later."""
+
+    def act(room: Room) -> Said:
+        with contextlib.closing(sqlite3.connect(room.at("freed.db"), isolation_level=None)) as base:
+            base.execute("BEGIN IMMEDIATE")
+            with begin(room, f"exec {typed}") as ran:
+                time.sleep(0.5)
+                base.close()
+                return end(ran)
+
+    return Row(what, act, out, busy("freed.db").err if refused else "", int(refused))
+
+
+RAN = 'read 3 refused 0 held 6\n{"sources":{"/s0":[[1,3]],"/s1":[[1,3]]},"version":1}\n'
+
+# `run` has its way to wait apart from the other commands.
+test_file_that_is_given_free = rows(
+    FILES,
+    "site take --db freed.db t0.json",
+    freed("a run that doesn't wait", "site run --db freed.db t1.json", "", refused=True),
+    freed("a run that waits", f"site run --db freed.db --wait {PATIENCE} t1.json", RAN),
+    freed("a take that waits", f"site take --db freed.db --wait {PATIENCE} t1.json", AGAIN.out),
 )
